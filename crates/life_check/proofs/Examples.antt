@@ -27,7 +27,7 @@ use Rattle.model_laws.specs.ChainExamples.{cleans_none}
 use Rattle.run_model.specs.Worlds.{World, new_world, happens, IsRun}
 use Rattle.model_laws.proofs.ChainExamples.{chain_runs}
 use Rattle.life_check.specs.ChainTheorem.{NoFaults, ChainNeverFaults}
-use Rattle.life_check.proofs.chains.Never.{typed_alone_never_faults}
+use Rattle.life_check.proofs.SafeChains.{typed_alone_never_faults}
 
 pub identity_answers : IdentityAnswers
 unfolding pool_of_brigade pool_of_pool upd any_below known facts_of moved all_below brigade_le leq under_within cleared_under at_end_of_request is_formed first_below first_refusal

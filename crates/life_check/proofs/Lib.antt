@@ -3,7 +3,6 @@ pub mod alone
 pub mod Asides
 pub mod Brigades
 pub mod Cleared
-pub mod chains
 pub mod Completed
 pub mod Cuts
 pub mod EdgeLaws
@@ -42,3 +41,4 @@ pub mod Tree
 pub mod TypedLaws
 pub mod Uniform
 pub mod Wants
+pub mod SafeChains

@@ -1,5 +1,5 @@
 -- Where an instruction leads, and what it may want.
-use Rattle.std.proofs.Common.{◌≡◌, ℕ, suc, ◌<◌, ◌≤◌, Bool, true, false, ◌&&◌, ◌||◌, not, nat_lt, cond, List, [], ◌∷◌, Option, Some, None, is_some, Result, Ok, refl, sym, ap, arith}
+use Rattle.std.proofs.Common.{◌≡◌, ℕ, suc, ◌<◌, ◌≤◌, Bool, true, false, ◌&&◌, ◌||◌, not, nat_lt, cond, List, [], ◌∷◌, Option, Some, None, is_some, Ok, refl, sym, ap, arith}
 use Rattle.std.proofs.lemmas.Bool.Decides.{nat_tests}
 use Rattle.module_code.specs.Args.{op_of}
 use Rattle.module_code.specs.Tables.{misplaced, touches_req, any_touches_req, has_main_only, is_main, under_req}
@@ -12,9 +12,6 @@ use Rattle.module_code.specs.declared.instr.PoolRef.TheVariants as pool
 use Rattle.module_code.specs.Program.{Program, pool_of_pool, pool_of_brigade}
 use Rattle.run_model.specs.declared.event.Exit.{Exit}
 use Rattle.run_model.specs.declared.event.Exit.TheVariants.{GoOn, Jump, Return}
-use Rattle.run_model.specs.declared.event.Refusal.{Refusal}
-use Rattle.run_model.specs.declared.event.Stepped.{Stepped}
-use Rattle.run_model.specs.declared.event.Stepped.TheVariants as stepped
 use Rattle.run_model.specs.declared.effect.Branch.{Branch}
 use Rattle.run_model.specs.declared.effect.Branch.TheVariants.{ToNext, JumpIf, JumpAlways, EndCall}
 use Rattle.run_model.specs.declared.fault.FaultKind.{FaultKind}
@@ -99,10 +96,6 @@ same_edges e x h = cc
 pub met_of : (f : Option FaultKind) (e x : Edges) → need_or f e ≡ Ok x → (f ≡ None) × (e ≡ x)
 met_of None e x h = (refl, same_edges e x h)
 met_of (Some k) e x h = cc
-
-abbrev pub NoFaultIn : Result Stepped Refusal → Type 0
-NoFaultIn (Ok (stepped.Fault k m pc)) = ⊥
-NoFaultIn a = Unit {0}
 
 -- what a call leaves is what is known without a request, or in one
 pub left_rests : (p : Program) (m : Certificate) (pc : ℕ) (req : Option ℕ) → (pc < p.init → req ≡ None) → (p.init ≤ pc → is_some req ≡ true) → left_by p m pc ≡ resting m req

@@ -1,18 +1,15 @@
--- What is known where a call begins, of the instance and of what is brought.
-use Rattle.std.proofs.Common.{◌≡◌, ℕ, ◌+◌, true, ◌&&◌, not, List, [], ◌∷◌, Option, Some, None, refl, sym, subst}
+-- What is known of the instance where a call begins.
+use Rattle.std.proofs.Common.{◌≡◌, ℕ, true, ◌&&◌, not, Option, Some, None, sym, subst}
 use Rattle.module_code.specs.Program.{Program}
 use Rattle.run_model.specs.declared.bucket.Home.{Home}
 use Rattle.run_model.specs.declared.bucket.PoolVar.TheVariants as poolvar
-use Rattle.run_model.specs.declared.event.Piece.{Piece}
-use Rattle.run_model.specs.declared.event.Piece.TheVariants as piece
-use Rattle.run_model.specs.Pieces.{bucket_of, named_from}
 use Rattle.run_model.specs.Pools.{is_live}
 use Rattle.run_model.specs.State.{Configuration, Call, Shared, Out}
-use Rattle.life_state.specs.States.{Homes, only_call, CursorKnown, Unset, State}
+use Rattle.life_state.specs.States.{Homes, CursorKnown, Unset, State}
 use Rattle.life_state.specs.InForm.{is_formed}
 use Rattle.life_state.proofs.Tests.{split2, split3}
 use Rattle.life_check.specs.Certificates.{IsBoundedSome}
-use Rattle.life_check.specs.Meaning.{ByCall, HoldsOfEach, FitsCursor, Differ, Fits, InCall}
+use Rattle.life_check.specs.Meaning.{FitsCursor, Differ, Fits}
 use Rattle.life_check.specs.Typed.{declares, has_in, has_no_cursor, fits_between}
 use Rattle.life_check.proofs.Standards.{no_cursors}
 use Rattle.life_check.proofs.Pools.{pool_kept, brigade_more}
@@ -39,20 +36,3 @@ between_unset p (Some t) s bounded fit is = subst (λ (x : State). (c : ℕ) →
     (no_cursors t bounded (split3 (declares p t) (not (has_in t)) (has_no_cursor t) (split2 (declares p t && not (has_in t) && has_no_cursor t) (is_formed t) fit).0).2) where
       same : Some t ≡ Some s → t ≡ s
       same e = cc
-
--- What is brought.
-
-piece_covered : (p : Program) (r : Configuration) (req : ℕ) → r.shared.req ≡ Some req → is_live r.shared.pools req ≡ true → (x : Piece) → InCall p r only_call (bucket_of r.call.name req x).home
-piece_covered p r req is live (piece.Heap bytes) = tt
-piece_covered p r req is live (piece.Transient bytes) = (refl, refl)
-piece_covered p r req is live (piece.Immortal bytes) = tt
-piece_covered p r req is live (piece.Pool bytes) = tt
-piece_covered p r req is live (piece.File file from len) = (live, ByCall refl is)
-piece_covered p r req is live piece.Flush = tt
-piece_covered p r req is live piece.Eos = tt
-
-pub pieces_covered : (p : Program) (r : Configuration) (req n : ℕ) (xs : List Piece) → r.shared.req ≡ Some req → is_live r.shared.pools req ≡ true
-    → HoldsOfEach (λ x. InCall p r only_call x.bucket.home) (named_from (bucket_of r.call.name req) n xs)
-unfolding HoldsOfEach
-pieces_covered p r req n [] is live = tt
-pieces_covered p r req n (x ∷ xs) is live = (piece_covered p r req is live x, pieces_covered p r req (n + 1) xs is live)

@@ -7,7 +7,6 @@ pub mod Slim
 pub mod Examples
 pub mod Meaning
 pub mod Soundness
-pub mod ChainMeaning
 pub mod ChainTheorem
 pub mod Accepted
 pub mod Prelude

@@ -1,5 +1,5 @@
 -- What a state means: which instances and calls it describes.
-use Rattle.std.specs.Prelude.{◌≡◌, ◌⊎◌, ℕ, Bool, true, false, if◌then◌else◌, List, [], ◌∷◌, Option, Some, None}
+use Rattle.std.specs.Prelude.{◌≡◌, ◌⊎◌, ℕ, Bool, true, false, if◌then◌else◌, List, [], ◌∷◌, Some, None}
 use Rattle.module_code.specs.Program.{Program}
 use Rattle.module_code.specs.declared.instr.PoolRef.{PoolRef}
 use Rattle.run_model.specs.declared.bucket.BrigadeVar.{BrigadeVar}
@@ -49,14 +49,7 @@ Covers p v lives h (home.Call n) = (h.call ≡ true) × lives (home.Call n)
 Covers p v lives h (home.Pool n) = (is_live v.pools n ≡ true) × CoversPool p v lives h n
 Covers p v lives h home.Ended = h.dead ≡ true
 
--- What lives through a call of this name, where one module is on the connection: the call, and the request's pool.
-abbrev pub LivesIn : ℕ → Option ℕ → Home → Type 0
-LivesIn call req home.Free = ⊥
-LivesIn call req (home.Call n) = n ≡ call
-LivesIn call req (home.Pool n) = req ≡ Some n
-LivesIn call req home.Ended = ⊥
-
--- Between calls nothing does.
+-- Between calls nothing lives on.
 abbrev pub NoneLives : Home → Type 0
 NoneLives h = ⊥
 
@@ -144,9 +137,6 @@ pub record Fits (C : Homes → Home → Type 0) (s : State) (r : Configuration) 
   pub cursors : (c : ℕ) → FitsCursor C r (s.cursors c) (r.call.cursors c)
   pub facts : (c d : ℕ) → s.facts c d ≡ true → Differ (r.call.cursors c) (r.call.cursors d)
 
--- The homes that are covered in a call, and between calls.
-abbrev pub InCall : Program → Configuration → Homes → Home → Type 0
-InCall p r = Covers p (pool_view r) (LivesIn r.call.name r.shared.req)
-
+-- The homes that are covered between calls.
 abbrev pub Between : Program → Configuration → Homes → Home → Type 0
 Between p r = Covers p (pool_view r) NoneLives

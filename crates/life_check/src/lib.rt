@@ -14,5 +14,8 @@ mod slim;
 pub use cert::Cert;
 pub use chain::{CheckedChain, accept_chain};
 pub use checked::check;
+pub use life_state::State;
+pub use module_code::Module;
 pub use refusal::{ChainRefusal, CheckRefusal, Rule};
+pub use run_model::FaultKind;
 pub use slim::heads;

@@ -47,3 +47,4 @@ pub mod chains
 pub mod ChainExamples
 pub mod parts
 pub mod alone
+pub mod seen

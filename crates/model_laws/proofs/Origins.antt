@@ -20,12 +20,13 @@ use Rattle.run_model.specs.BrigadeLists.{buckets_before, buckets_from, first_buc
 use Rattle.run_model.specs.BrigadeLists.{first_split, front_to, back_from, is_short, partitioned}
 use Rattle.run_model.specs.State.{Configuration, items_of, set_brigade, set_number, set_cursor, set_loose}
 use Rattle.run_model.specs.Cursors.{bucket_at, Place, AtLoose, Within, at_cursor, read_cursor}
-use Rattle.run_model.specs.BucketSteps.{items_at, set_items, do_next, do_unlink, do_delete, put_into, do_before, name_given, names_given, names_to_part, new_loose, heap_bucket}
+use Rattle.run_model.specs.BucketSteps.{copied_bucket, items_at, set_items, do_next, do_unlink, do_delete, put_into, do_before, name_given, names_given, names_to_part, new_loose, heap_bucket}
 use Rattle.run_model.specs.BucketSteps.{do_make, split_there, do_split, rest_named, first_read, read_given, read_within, do_read}
 use Rattle.run_model.specs.BucketSteps.{place_at, do_bsplit, do_bpart, got}
 use Rattle.run_model.specs.declared.effect.Effect.{Effect}
 use Rattle.run_model.specs.declared.effect.Effect.TheVariants as effect
 use Rattle.run_model.specs.declared.effect.MadeFrom.{MadeFrom}
+use Rattle.run_model.specs.declared.effect.MadeFrom.TheVariants.{CopyAt}
 use Rattle.run_model.specs.declared.effect.Side.{Side}
 use Rattle.run_model.specs.declared.effect.Side.TheVariants.{AtTail, AtHead}
 use Rattle.run_model.specs.EffectOf.{effect_of}
@@ -48,6 +49,11 @@ pub record Descends (new : ℕ) (T : NamedBucket → Type 0) : Type 0 where
 -- What is true of each bucket that a configuration holds, under its name.
 pub record HoldsNamed (T : NamedBucket → Type 0) (r : Configuration) : Type 0 where
   pub brigades : (b : ℕ) → All T (items_at r b)
+  pub loose : All T r.call.loose
+
+-- The same of the brigades of which S is true, and of the loose ones.
+pub record HoldsIn (S : ℕ → Type 0) (T : NamedBucket → Type 0) (r : Configuration) : Type 0 where
+  pub brigades : (b : ℕ) → S b → All T (items_at r b)
   pub loose : All T r.call.loose
 
 -- A bucket as one is made in a call: it depends on nothing, or on the call.
@@ -94,89 +100,94 @@ pub made_apart : (r : Configuration) (b : Bucket) (p : ℕ) → IsMade r b → b
 made_apart r b p m at = elim m.lives [ inl free ↦ cc | inr call ↦ cc ]
 
 -- What is written into a configuration.
-module _ (T : NamedBucket → Type 0) where
-  items_hold : (b : ℕ) (items : List NamedBucket) (r : Configuration) → All T items → HoldsNamed T r → HoldsNamed T (set_items b items r)
+module _ (S : ℕ → Type 0) (T : NamedBucket → Type 0) where
+  items_hold : (b : ℕ) (items : List NamedBucket) (r : Configuration) → (S b → All T items) → HoldsIn S T r → HoldsIn S T (set_items b items r)
   unfolding set_brigade
   items_hold b items r here h = record { brigades = in_each; loose = h.loose } where
-    filled : (v : BrigadeVar) → All T (items_of (with_items items v))
-    filled var.Null = All-nil T
-    filled var.Gone = All-nil T
-    filled (var.Live v) = here
+    filled : S b → (v : BrigadeVar) → All T (items_of (with_items items v))
+    filled s var.Null = All-nil T
+    filled s var.Gone = All-nil T
+    filled s (var.Live v) = here s
 
-    in_each : (k : ℕ) → All T (items_at (set_items b items r) k)
-    in_each k = elim (upd_either r.instance.brigades b k (with_items items (r.instance.brigades b))) [
-      | inl q ↦ subst (λ v. All T (items_of v)) (sym q.1) (filled (r.instance.brigades b))
-      | inr q ↦ subst (λ v. All T (items_of v)) (sym q.1) (h.brigades k)
+    in_each : (k : ℕ) → S k → All T (items_at (set_items b items r) k)
+    in_each k s = elim (upd_either r.instance.brigades b k (with_items items (r.instance.brigades b))) [
+      | inl q ↦ subst (λ v. All T (items_of v)) (sym q.1) (filled (subst S q.0 s) (r.instance.brigades b))
+      | inr q ↦ subst (λ v. All T (items_of v)) (sym q.1) (h.brigades k s)
     ]
 
-  loose_hold : (items : List NamedBucket) (r : Configuration) → All T items → HoldsNamed T r → HoldsNamed T (set_loose items r)
+  loose_hold : (items : List NamedBucket) (r : Configuration) → All T items → HoldsIn S T r → HoldsIn S T (set_loose items r)
   unfolding set_loose
   loose_hold items r here h = record { brigades = h.brigades; loose = here }
 
-  cursor_holds : (c : ℕ) (k : Cursor) (r : Configuration) → HoldsNamed T r → HoldsNamed T (set_cursor c k r)
+  cursor_holds : (c : ℕ) (k : Cursor) (r : Configuration) → HoldsIn S T r → HoldsIn S T (set_cursor c k r)
   unfolding set_cursor
   cursor_holds c k r h = record { brigades = h.brigades; loose = h.loose }
 
-  number_holds : (n v : ℕ) (r : Configuration) → HoldsNamed T r → HoldsNamed T (set_number n v r)
+  number_holds : (n v : ℕ) (r : Configuration) → HoldsIn S T r → HoldsIn S T (set_number n v r)
   unfolding set_number
   number_holds n v r h = record { brigades = h.brigades; loose = h.loose }
 
-  names_hold : (n : ℕ) (r : Configuration) → HoldsNamed T r → HoldsNamed T (names_given n r)
+  names_hold : (n : ℕ) (r : Configuration) → HoldsIn S T r → HoldsIn S T (names_given n r)
   names_hold n r h = record { brigades = h.brigades; loose = h.loose }
 
-  buffer_holds : (buffer : List ℕ) (r : Configuration) → HoldsNamed T r → HoldsNamed T (with_buffer buffer r)
+  buffer_holds : (buffer : List ℕ) (r : Configuration) → HoldsIn S T r → HoldsIn S T (with_buffer buffer r)
   buffer_holds buffer r h = record { brigades = h.brigades; loose = h.loose }
 
--- the bucket at which a cursor stands
-pub held_at : (T : NamedBucket → Type 0) (r : Configuration) → HoldsNamed T r → (s : Place) → StandsThere r s → IfSome (bucket_at s) T
-held_at T r h (Within b x) there = of_named T x.name x (items_at r b) there.1 (h.brigades b)
-held_at T r h (AtLoose x) there = of_named T x.name x r.call.loose there h.loose
-held_at T r h s there = tt
+-- where a place is one in a brigade, S is true of that
+abbrev pub PlaceIn : (ℕ → Type 0) → Place → Type 0
+PlaceIn S (Within b x) = S b
+PlaceIn S s = Unit {0}
 
-module _ (T : NamedBucket → Type 0) (r : Configuration) (on : Descends r.shared.next T) (h : HoldsNamed T r) where
+-- the bucket at which a cursor stands
+pub held_in : (S : ℕ → Type 0) (T : NamedBucket → Type 0) (r : Configuration) → HoldsIn S T r → (s : Place) → PlaceIn S s → StandsThere r s → IfSome (bucket_at s) T
+held_in S T r h (Within b x) in_it there = of_named T x.name x (items_at r b) there.1 (h.brigades b in_it)
+held_in S T r h (AtLoose x) in_it there = of_named T x.name x r.call.loose there h.loose
+held_in S T r h s in_it there = tt
+
+module _ (S : ℕ → Type 0) (T : NamedBucket → Type 0) (r : Configuration) (on : Descends r.shared.next T) (h : HoldsIn S T r) where
   none : All T []
   none = All-nil T
 
   -- Cursors and what stands where.
 
-  next_holds : (d : ℕ) (s : Place) → HoldsNamed T (do_next d s r)
-  next_holds d (Within b x) = cursor_holds T d _ r h
+  next_holds : (d : ℕ) (s : Place) → HoldsIn S T (do_next d s r)
+  next_holds d (Within b x) = cursor_holds S T d _ r h
   next_holds d s = h
 
-  got_holds : (n : ℕ) (o : Option ℕ) → HoldsNamed T (got n o r)
+  got_holds : (n : ℕ) (o : Option ℕ) → HoldsIn S T (got n o r)
   got_holds n None = h
-  got_holds n (Some byte) = number_holds T n byte r h
+  got_holds n (Some byte) = number_holds S T n byte r h
 
-  taken_holds : (b : ℕ) (x : NamedBucket) → HoldsNamed T (set_items b (taken_out x.name (items_at r b)) r)
-  taken_holds b x = items_hold T b _ r (each_taken_out T x.name (items_at r b) (h.brigades b)) h
+  taken_holds : (b : ℕ) (x : NamedBucket) → HoldsIn S T (set_items b (taken_out x.name (items_at r b)) r)
+  taken_holds b x = items_hold S T b _ r (λ s. each_taken_out T x.name (items_at r b) (h.brigades b s)) h
 
-  taken_loose_holds : (x : NamedBucket) → HoldsNamed T (set_loose (taken_out x.name r.call.loose) r)
-  taken_loose_holds x = loose_hold T _ r (each_taken_out T x.name r.call.loose h.loose) h
+  taken_loose_holds : (x : NamedBucket) → HoldsIn S T (set_loose (taken_out x.name r.call.loose) r)
+  taken_loose_holds x = loose_hold S T _ r (each_taken_out T x.name r.call.loose h.loose) h
 
-  unlink_holds : (s : Place) → StandsThere r s → HoldsNamed T (do_unlink s r)
-  unlink_holds (Within b x) there = loose_hold T _ _ (each_put_tail T x r.call.loose (held_at T r h (Within b x) there) h.loose) (taken_holds b x)
-  unlink_holds s there = h
+  unlink_holds : (s : Place) → PlaceIn S s → StandsThere r s → HoldsIn S T (do_unlink s r)
+  unlink_holds (Within b x) in_it there = loose_hold S T _ _ (each_put_tail T x r.call.loose (held_in S T r h (Within b x) in_it there) h.loose) (taken_holds b x)
+  unlink_holds s in_it there = h
 
-  delete_holds : (s : Place) → HoldsNamed T (do_delete s r)
+  delete_holds : (s : Place) → HoldsIn S T (do_delete s r)
   delete_holds (Within b x) = taken_holds b x
   delete_holds (AtLoose x) = taken_loose_holds x
   delete_holds s = h
 
   put_holds : (insert : NamedBucket → List NamedBucket → List NamedBucket) → ((x : NamedBucket) (bs : List NamedBucket) → T x → All T bs → All T (insert x bs))
-      → (b : ℕ) (s : Place) → StandsThere r s → HoldsNamed T (put_into insert b s r)
-  put_holds insert inserted b (AtLoose x) there = items_hold T b _ _ (inserted x (items_at r b) (held_at T r h (AtLoose x) there) (h.brigades b)) (taken_loose_holds x)
+      → (b : ℕ) (s : Place) → StandsThere r s → HoldsIn S T (put_into insert b s r)
+  put_holds insert inserted b (AtLoose x) there = items_hold S T b _ _ (λ s. inserted x (items_at r b) (held_in S T r h (AtLoose x) tt there) (h.brigades b s)) (taken_loose_holds x)
   put_holds insert inserted b s there = h
 
-  before_holds : (s t : Place) → StandsThere r s → HoldsNamed T (do_before s t r)
+  before_holds : (s t : Place) → StandsThere r s → HoldsIn S T (do_before s t r)
   before_holds s (Within b y) there = put_holds (put_before y.name) (λ x bs new old. each_put_before T y.name x bs new old) b s there
   before_holds s t there = h
 
   -- New buckets.
 
-  new_holds : (c : ℕ) (b : Bucket) → T (record { name = r.shared.next; bucket = b }) → HoldsNamed T (new_loose c b r)
-  new_holds c b new = cursor_holds T c _ _ (loose_hold T _ (name_given r) (each_put_tail T (record { name = r.shared.next; bucket = b }) r.call.loose new h.loose) (names_hold T 1 r h))
+  new_holds : (c : ℕ) (b : Bucket) → T (record { name = r.shared.next; bucket = b }) → HoldsIn S T (new_loose c b r)
+  new_holds c b new = cursor_holds S T c _ _ (loose_hold S T _ (name_given r) (each_put_tail T (record { name = r.shared.next; bucket = b }) r.call.loose new h.loose) (names_hold S T 1 r h))
 
-  make_holds : (c : ℕ) (o : Option Bucket) → IfSome o (λ b. T (record { name = r.shared.next; bucket = b })) → HoldsNamed T (do_make c o r)
+  make_holds : (c : ℕ) (o : Option Bucket) → IfSome o (λ b. T (record { name = r.shared.next; bucket = b })) → HoldsIn S T (do_make c o r)
   make_holds c None new = h
   make_holds c (Some b) new = new_holds c b new
 
@@ -200,14 +211,14 @@ module _ (T : NamedBucket → Type 0) (r : Configuration) (on : Descends r.share
     by_tests true true is may = absurd (cc)
     by_tests false t is may = absurd (cc)
 
-  split_in : (n b : ℕ) (x : NamedBucket) → StandsThere r (Within b x) → n ≤ length_of x.bucket.content → HoldsNamed T (split_there n (Within b x) r)
+  split_in : (n b : ℕ) (x : NamedBucket) → StandsThere r (Within b x) → n ≤ length_of x.bucket.content → HoldsIn S T (split_there n (Within b x) r)
   split_in n b x there le =
-      items_hold T b _ _ (All-append T (buckets_before x.name (items_at r b)) (first_split r.shared.next n (buckets_from x.name (items_at r b))) (each_before T x.name (items_at r b) (h.brigades b))
-      (split_first n x (buckets_from x.name (items_at r b)) there.1 le (each_from T x.name (items_at r b) (h.brigades b)))) (names_hold T 1 r h)
+      items_hold S T b _ _ (λ s. All-append T (buckets_before x.name (items_at r b)) (first_split r.shared.next n (buckets_from x.name (items_at r b))) (each_before T x.name (items_at r b) (h.brigades b s))
+      (split_first n x (buckets_from x.name (items_at r b)) there.1 le (each_from T x.name (items_at r b) (h.brigades b s)))) (names_hold S T 1 r h)
 
-  split_holds : (n : ℕ) (s : Place) → StandsThere r s → HoldsNamed T (do_split n s r)
+  split_holds : (n : ℕ) (s : Place) → StandsThere r s → HoldsIn S T (do_split n s r)
   split_holds n (Within b x) there = by_refusal (is_some (split_refusal n x)) refl where
-    by_refusal : (t : Bool) → is_some (split_refusal n x) ≡ t → HoldsNamed T (cond t r (split_there n (Within b x) r))
+    by_refusal : (t : Bool) → is_some (split_refusal n x) ≡ t → HoldsIn S T (cond t r (split_there n (Within b x) r))
     by_refusal true is = h
     by_refusal false is = split_in n b x there (reaches n x is)
   split_holds n s there = h
@@ -243,8 +254,8 @@ module _ (T : NamedBucket → Type 0) (r : Configuration) (on : Descends r.share
     by_short true = all
     by_short false = All-append T (front_to point bs) (back_from r.shared.next point bs) (front_each point bs all) (back_each point bs all)
 
-  part_holds : (b point c : ℕ) → HoldsNamed T (do_bpart b point c r)
-  part_holds b point c = cursor_holds T c _ _ (items_hold T b _ _ (parted_each point (items_at r b) (h.brigades b)) (names_hold T (names_to_part point (items_at r b)) r h))
+  part_holds : (b point c : ℕ) → HoldsIn S T (do_bpart b point c r)
+  part_holds b point c = cursor_holds S T c _ _ (items_hold S T b _ _ (λ s. parted_each point (items_at r b) (h.brigades b s)) (names_hold S T (names_to_part point (items_at r b)) r h))
 
   stay_each : (at : Option ℕ) (bs : List NamedBucket) → All T bs → All T (stays at bs)
   stay_each None bs all = all
@@ -254,8 +265,9 @@ module _ (T : NamedBucket → Type 0) (r : Configuration) (on : Descends r.share
   move_each None bs all = none
   move_each (Some n) bs all = each_from T n bs all
 
-  bsplit_holds : (b : ℕ) (s : Place) (a : ℕ) → HoldsNamed T (do_bsplit b s a r)
-  bsplit_holds b s a = items_hold T a _ _ (move_each (place_at s) (items_at r b) (h.brigades b)) (items_hold T b _ r (stay_each (place_at s) (items_at r b) (h.brigades b)) h)
+  bsplit_holds : (b : ℕ) (s : Place) (a : ℕ) → S b → HoldsIn S T (do_bsplit b s a r)
+  bsplit_holds b s a in_it =
+      items_hold S T a _ _ (λ t. move_each (place_at s) (items_at r b) (h.brigades b in_it)) (items_hold S T b _ r (λ t. stay_each (place_at s) (items_at r b) (h.brigades b in_it)) h)
 
   -- Reads.
 
@@ -279,53 +291,93 @@ module _ (T : NamedBucket → Type 0) (r : Configuration) (on : Descends r.share
       All-cons T _ _ parts.0 (All-append T _ ys parts.1 (All-tail T y ys all))
 
   read_holds : (given : Option (List ℕ)) (s : Place) → ((c : Content) (bytes : List ℕ) → read_given given c ≡ Some bytes → (y : NamedBucket) → T y → T (record y { bucket = heap_bucket bytes }))
-      → HoldsNamed T (do_read given s r)
+      → HoldsIn S T (do_read given s r)
   read_holds given (Within b x) made = by_given (read_given given x.bucket.content) refl where
-    by_given : (o : Option (List ℕ)) → read_given given x.bucket.content ≡ o → HoldsNamed T (read_within b x o r)
-    by_given None is = cursor_holds T read_cursor _ r h
+    by_given : (o : Option (List ℕ)) → read_given given x.bucket.content ≡ o → HoldsIn S T (read_within b x o r)
+    by_given None is = cursor_holds S T read_cursor _ r h
     by_given (Some bytes) is =
-        cursor_holds T read_cursor _ _ (items_hold T b _ _ (All-append T (buckets_before x.name (items_at r b)) (first_read r.shared.next bytes (buckets_from x.name (items_at r b)))
-        (each_before T x.name (items_at r b) (h.brigades b))
-        (read_first bytes (made x.bucket.content bytes is) (buckets_from x.name (items_at r b)) (each_from T x.name (items_at r b) (h.brigades b)))) (names_hold T _ r h))
+        cursor_holds S T read_cursor _ _ (items_hold S T b _ _ (λ s. All-append T (buckets_before x.name (items_at r b)) (first_read r.shared.next bytes (buckets_from x.name (items_at r b)))
+        (each_before T x.name (items_at r b) (h.brigades b s))
+        (read_first bytes (made x.bucket.content bytes is) (buckets_from x.name (items_at r b)) (each_from T x.name (items_at r b) (h.brigades b s)))) (names_hold S T _ r h))
   read_holds given s made = h
 
 -- whether an effect neither changes pools nor brigades as a whole, nor ends a call, nor sets buckets aside
 abbrev pub is_quiet : Effect → Bool
 is_quiet e = not (is_wide (extent e) || has_pools (extent e))
 
--- What is true of each bucket, under its name, of what comes of it and of what is made and read, is true of each that such an effect leaves.
-module _ (T : NamedBucket → Type 0) (p : Program) (choice : Choice) (r : Configuration) (on : Descends r.shared.next T)
+-- Of which brigade, and where, S has to be true where such an effect takes buckets from it into others, or copies one.
+abbrev pub TakesIn : (ℕ → Type 0) → Configuration → Effect → Type 0
+TakesIn S r (effect.SplitBrigade b c a) = S b
+TakesIn S r (effect.Unlink c) = PlaceIn S (at_cursor r c)
+TakesIn S r (effect.Make c (CopyAt d)) = PlaceIn S (at_cursor r d)
+TakesIn S r e = Unit {0}
+
+-- What is true of each bucket, under its name, of what comes of it and of what is made and read, is true of each that such an effect leaves, in
+-- these brigades.
+module _ (S : ℕ → Type 0) (T : NamedBucket → Type 0) (p : Program) (choice : Choice) (r : Configuration) (on : Descends r.shared.next T)
     (made : (b : Bucket) → IsMade r b → IsNewContent p r b.content → T (record { name = r.shared.next; bucket = b }))
-    (reads : (c : Content) (bytes : List ℕ) → read_given choice.given c ≡ Some bytes → (x : NamedBucket) → T x → T (record x { bucket = heap_bucket bytes })) (h : HoldsNamed T r) where
+    (reads : (c : Content) (bytes : List ℕ) → read_given choice.given c ≡ Some bytes → (x : NamedBucket) → T x → T (record x { bucket = heap_bucket bytes })) (h : HoldsIn S T r) where
   abbrev New : Bucket → Type 0
   New b = T (record { name = r.shared.next; bucket = b })
 
+  -- like one at which a cursor stands
+  copied_holds : (o : Option NamedBucket) → IfSome o T → IfSome (copied_bucket o) New
+  copied_holds None old = tt
+  copied_holds (Some x) old = on.named x old
+
   -- of whatever source: made as one is made in a call, or like one at which a cursor stands
-  made_holds : (source : MadeFrom) → IfSome (made_of p r source) New
-  made_holds source = grind (arith, made, on.named, held_at T r h, stands r, OfText, OfBuffer, OfNone)
+  made_holds : (c : ℕ) (source : MadeFrom) → TakesIn S r (effect.Make c source) → IfSome (made_of p r source) New
+  made_holds c (CopyAt d) in_it = copied_holds (bucket_at (at_cursor r d)) (held_in S T r h (at_cursor r d) in_it (stands r (r.call.cursors d)))
+  made_holds c source in_it = grind (arith, made, OfText, OfBuffer, OfNone)
 
-  insert_holds : (side : Side) (b c : ℕ) → HoldsNamed T (put_into (put_at side) b (at_cursor r c) r)
-  insert_holds AtTail b c = put_holds T r on h put_tail (each_put_tail T) b (at_cursor r c) (stands r (r.call.cursors c))
-  insert_holds AtHead b c = put_holds T r on h put_head (each_put_head T) b (at_cursor r c) (stands r (r.call.cursors c))
+  insert_holds : (side : Side) (b c : ℕ) → HoldsIn S T (put_into (put_at side) b (at_cursor r c) r)
+  insert_holds AtTail b c = put_holds S T r on h put_tail (each_put_tail T) b (at_cursor r c) (stands r (r.call.cursors c))
+  insert_holds AtHead b c = put_holds S T r on h put_head (each_put_head T) b (at_cursor r c) (stands r (r.call.cursors c))
 
-  pub leaves : (e : Effect) → is_quiet e ≡ true → HoldsNamed T (do_effect p choice e r)
-  leaves effect.Nothing quiet = h
-  leaves (effect.SplitBrigade b c a) quiet = bsplit_holds T r on h b (at_cursor r c) a
-  leaves (effect.PartBrigade b x c) quiet = part_holds T r on h b (value_of r x) c
-  leaves (effect.First c b) quiet = cursor_holds T c _ r h
-  leaves (effect.Next d c) quiet = next_holds T r on h d (at_cursor r c)
-  leaves (effect.Unlink c) quiet = unlink_holds T r on h (at_cursor r c) (stands r (r.call.cursors c))
-  leaves (effect.Delete c) quiet = delete_holds T r on h (at_cursor r c)
-  leaves (effect.Insert side b c) quiet = insert_holds side b c
-  leaves (effect.Before c d) quiet = before_holds T r on h (at_cursor r c) (at_cursor r d) (stands r (r.call.cursors c))
-  leaves (effect.Make c source) quiet = make_holds T r on h c (made_of p r source) (made_holds source)
-  leaves (effect.Split c x) quiet = split_holds T r on h (value_of r x) (at_cursor r c) (stands r (r.call.cursors c))
-  leaves (effect.Read c) quiet = read_holds T r on h choice.given (at_cursor r c) reads
-  leaves (effect.Number n number) quiet = got_holds T r on h n (number_of r n number)
-  leaves (effect.Put x) quiet = put_keeps (HoldsNamed T) x r h (λ buffer. buffer_holds T buffer r h)
-  leaves effect.ClearBuffer quiet = buffer_holds T [] r h
-  leaves effect.Leave quiet = record { brigades = h.brigades; loose = h.loose }
-  leaves e quiet = absurd (cc)
+  pub leaves_in : (e : Effect) → is_quiet e ≡ true → TakesIn S r e → HoldsIn S T (do_effect p choice e r)
+  leaves_in effect.Nothing quiet in_it = h
+  leaves_in (effect.SplitBrigade b c a) quiet in_it = bsplit_holds S T r on h b (at_cursor r c) a in_it
+  leaves_in (effect.PartBrigade b x c) quiet in_it = part_holds S T r on h b (value_of r x) c
+  leaves_in (effect.First c b) quiet in_it = cursor_holds S T c _ r h
+  leaves_in (effect.Next d c) quiet in_it = next_holds S T r on h d (at_cursor r c)
+  leaves_in (effect.Unlink c) quiet in_it = unlink_holds S T r on h (at_cursor r c) in_it (stands r (r.call.cursors c))
+  leaves_in (effect.Delete c) quiet in_it = delete_holds S T r on h (at_cursor r c)
+  leaves_in (effect.Insert side b c) quiet in_it = insert_holds side b c
+  leaves_in (effect.Before c d) quiet in_it = before_holds S T r on h (at_cursor r c) (at_cursor r d) (stands r (r.call.cursors c))
+  leaves_in (effect.Make c source) quiet in_it = make_holds S T r on h c (made_of p r source) (made_holds c source in_it)
+  leaves_in (effect.Split c x) quiet in_it = split_holds S T r on h (value_of r x) (at_cursor r c) (stands r (r.call.cursors c))
+  leaves_in (effect.Read c) quiet in_it = read_holds S T r on h choice.given (at_cursor r c) reads
+  leaves_in (effect.Number n number) quiet in_it = got_holds S T r on h n (number_of r n number)
+  leaves_in (effect.Put x) quiet in_it = put_keeps (HoldsIn S T) x r h (λ buffer. buffer_holds S T buffer r h)
+  leaves_in effect.ClearBuffer quiet in_it = buffer_holds S T [] r h
+  leaves_in effect.Leave quiet in_it = record { brigades = h.brigades; loose = h.loose }
+  leaves_in e quiet in_it = absurd (cc)
+
+-- The same of all brigades.
+
+abbrev Any : ℕ → Type 0
+Any b = Unit {0}
+
+any_place : (s : Place) → PlaceIn Any s
+any_place (Within b x) = tt
+any_place s = tt
+
+any_taken : (r : Configuration) (e : Effect) → TakesIn Any r e
+any_taken r (effect.SplitBrigade b c a) = tt
+any_taken r (effect.Unlink c) = any_place (at_cursor r c)
+any_taken r (effect.Make c (CopyAt d)) = any_place (at_cursor r d)
+any_taken r e = tt
+
+pub held_at : (T : NamedBucket → Type 0) (r : Configuration) → HoldsNamed T r → (s : Place) → StandsThere r s → IfSome (bucket_at s) T
+held_at T r h s there = held_in Any T r (record { brigades = λ b any. h.brigades b; loose = h.loose }) s (any_place s) there
+
+pub leaves : (T : NamedBucket → Type 0) (p : Program) (choice : Choice) (r : Configuration) → Descends r.shared.next T
+    → ((b : Bucket) → IsMade r b → IsNewContent p r b.content → T (record { name = r.shared.next; bucket = b }))
+    → ((c : Content) (bytes : List ℕ) → read_given choice.given c ≡ Some bytes → (x : NamedBucket) → T x → T (record x { bucket = heap_bucket bytes })) → HoldsNamed T r
+    → (e : Effect) → is_quiet e ≡ true → HoldsNamed T (do_effect p choice e r)
+leaves T p choice r on made reads h e quiet =
+    let left = leaves_in Any T p choice r on made reads (record { brigades = λ b any. h.brigades b; loose = h.loose }) e quiet (any_taken r e) in
+    record { brigades = λ b. left.brigades b tt; loose = left.loose }
 
 -- the parts of a bucket, and one like it
 pub parts_descend : (T : Bucket → Type 0) (next : ℕ) → PassesParts T → Descends next (λ x. T x.bucket)

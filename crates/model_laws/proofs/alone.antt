@@ -4,3 +4,5 @@ pub mod Beside
 pub mod Spared
 pub mod Kept
 pub mod Passing
+pub mod Homes
+pub mod KeptHomes

@@ -38,4 +38,5 @@ pub mod ChainOrder
 pub mod StepRuns
 pub mod SharedTree
 pub mod OpenRuns
+pub mod SafeChains
 pub mod ReadHomes

@@ -22,7 +22,7 @@ use Rattle.run_model.specs.Buckets.{has_data, data_after_eos, is_dead, returned_
 use Rattle.run_model.specs.Chains.{led_to, touched_instance}
 use Rattle.run_model.specs.Cutting.{FitsKind}
 use Rattle.run_model.specs.Effects.{do_pass, do_return, pool_destroyed}
-use Rattle.run_model.specs.Faults.{fault}
+use Rattle.run_model.specs.Faults.{fault, passed_fault}
 use Rattle.run_model.specs.Files.{Files}
 use Rattle.run_model.specs.Passing.{set_in, passed_by, given_back, after_pass, handler_at}
 use Rattle.run_model.specs.Pools.{is_in, is_live, is_under, created}
@@ -31,6 +31,7 @@ use Rattle.run_model.specs.Sound.{count_named, count, brigade_name, Sound}
 use Rattle.run_model.specs.State.{Configuration, Shared, Out, pool_named, is_named, is_own, items_of, fresh_instance, fresh_call}
 use Rattle.run_model.specs.Steps.{step, current, lacks_names, is_spent}
 use Rattle.model_laws.specs.AsDeclared.{AsDeclared}
+use Rattle.model_laws.specs.Laws.{MatchHome}
 
 -- Where the instance is.
 pub data Phase : Type 0 where
@@ -330,6 +331,21 @@ pub record StandsSound (p : Program) (s : Standing) : Type 0 where
 abbrev pub OpenRunsStaySound : Type 0
 OpenRunsStaySound = (p : Program) (r : Configuration) (moves : List Move) (told : List ToldOfMove) (new : Standing) → IsModule p → IsOpened r
     → IsOpenRun p (record { phase = Due; lasting = none_lasts; now = r }) moves told new → StandsSound p new
+
+-- A home that lasts: none, or one that has ended; a call that runs or waits; a live pool that the instance names, or one of another filter
+-- that lasts.
+abbrev pub IsHomeKept : Lasting → Configuration → Home → Type 0
+IsHomeKept l r h = MatchHome h (λ n. is_in n l.calls ≡ true)
+    (λ n. (is_live r.shared.pools n ≡ true) × (((k : PoolRef) × (pool_named r k ≡ Some n)) ⊎ (is_in n l.pools ≡ true)))
+
+-- So is that of each bucket that the instance may use: in a brigade that was not passed, or loose.
+pub record HoldsKept (l : Lasting) (r : Configuration) : Type 0 where
+  pub brigades : (b : ℕ) → passed_fault (r.instance.brigades b) ≡ None → All (λ x. IsHomeKept l r x.bucket.home) (items_of (r.instance.brigades b))
+  pub loose : All (λ x. IsHomeKept l r x.bucket.home) r.call.loose
+
+abbrev pub OpenRunsKeepHomes : Type 0
+OpenRunsKeepHomes = (p : Program) (r : Configuration) (moves : List Move) (told : List ToldOfMove) (new : Standing) → IsModule p → IsOpened r
+    → IsOpenRun p (record { phase = Due; lasting = none_lasts; now = r }) moves told new → HoldsKept new.lasting new.now
 
 -- What an instance passes may be brought to another: no data stands behind an EOS of its own or of the request, and no home has ended.
 abbrev pub PassedMayBeBrought : Type 0

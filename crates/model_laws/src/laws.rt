@@ -32,7 +32,8 @@ ghost use Rattle.model_laws.specs.ChainFiles.{ConnectionStepKeepsEnds, BringKeep
 ghost use Rattle.model_laws.specs.ChainHomes.{WorldHomes};
 ghost use Rattle.model_laws.specs.ChainOrder.{EventKeepsWorldOrder, RunKeepsWorldOrder};
 ghost use Rattle.model_laws.specs.ChainPaths.{WorldPaths};
-ghost use Rattle.model_laws.specs.OpenRuns.{OpenRunsStaySound, PassedMayBeBrought};
+ghost use Rattle.model_laws.specs.SafeChains.{SafeModulesMakeSafeChains};
+ghost use Rattle.model_laws.specs.OpenRuns.{OpenRunsStaySound, OpenRunsKeepHomes, PassedMayBeBrought};
 ghost use Rattle.model_laws.specs.ReadHomes.{RunKeepsReads, ReadsPassTheTest};
 ghost use Rattle.model_laws.specs.ChainNumbers.{EventKeepsNumbers, RunKeepsNumbers};
 ghost use Rattle.model_laws.specs.Reached.{NewIsReached, EventReaches, WorldRunGoesOn, ReachedHolds};
@@ -499,6 +500,13 @@ pub fn connections_share_the_tree()
 pub fn open_runs_stay_sound()
     ensures sound { OpenRunsStaySound }
     ensures passes { PassedMayBeBrought }
+    ensures homes { OpenRunsKeepHomes }
+{}
+
+/// A chain of safe modules is safe: where no instance of a module has a fault beside any filters, no run of any number of connections of a
+/// chain of such modules answers one. However it was shown of each module, by a certificate or otherwise.
+pub fn safe_modules_make_safe_chains()
+    ensures { SafeModulesMakeSafeChains }
 {}
 
 /// In each run of a chain, what a call read last has as home no pool and no call that returned: none, or the call itself or one that

@@ -30,7 +30,6 @@ use Rattle.model_laws.proofs.alone.Beside as model
 use Rattle.model_laws.proofs.chains.Places.{SameHandler, stays_in_handler, after_leads}
 use Rattle.life_state.specs.States.{Homes, State}
 use Rattle.life_check.specs.Certificates.{Certificate, AllBounded}
-use Rattle.life_check.specs.ChainMeaning.{before}
 use Rattle.life_check.specs.Meaning.{Covers, CoversPool, ByConnection, ByMember, ByDead, ByCall, NoneLives, Between, class_has, Fits}
 use Rattle.life_check.specs.Soundness.{FitsSome}
 use Rattle.life_check.specs.Typed.{flows}
@@ -39,9 +38,9 @@ use Rattle.life_check.proofs.Lists.{IsSorted}
 use Rattle.life_check.proofs.Orders.{greater_fits}
 use Rattle.life_check.proofs.Pools.{same_live, pool_kept}
 use Rattle.life_check.proofs.Standards.{resting, fits_flow, fits_aside}
-use Rattle.life_check.proofs.chains.Beside.{covers_more, fits_among}
-use Rattle.life_check.proofs.chains.Given.{given_fits}
-use Rattle.life_check.proofs.chains.Spared.{mapped, spared_fits}
+use Rattle.life_check.proofs.alone.Calls.{before, covers_more, fits_among}
+use Rattle.life_check.proofs.alone.Given.{given_fits}
+use Rattle.life_check.proofs.alone.Spared.{mapped, spared_fits}
 
 -- Other filters go on.
 

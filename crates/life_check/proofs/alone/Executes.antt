@@ -36,7 +36,7 @@ use Rattle.life_check.proofs.Orders.{greater_fits}
 use Rattle.life_check.proofs.Passes.{law_pass, law_ret}
 use Rattle.life_check.proofs.Standards.{resting, fits_under, fits_flow, fits_aside}
 use Rattle.life_check.proofs.Wants.{both_none}
-use Rattle.life_check.proofs.chains.Handed.{handed_live}
+use Rattle.life_check.proofs.alone.Calls.{handed_live}
 
 resting_bounded : (m : Certificate) → AllBounded m → (req : Option ℕ) → IsBoundedSome (resting m req)
 resting_bounded m bounded None = bounded.idle

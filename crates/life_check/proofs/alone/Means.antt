@@ -22,7 +22,7 @@ use Rattle.model_laws.proofs.PoolsKept.{req_apart}
 use Rattle.life_state.specs.Rules.{Edges, edges, first_need}
 use Rattle.life_state.specs.States.{Homes, State}
 use Rattle.life_check.specs.Certificates.{Certificate}
-use Rattle.life_check.specs.ChainMeaning.{before}
+use Rattle.life_check.proofs.alone.Calls.{before}
 use Rattle.life_check.specs.Meaning.{Covers, Between, Fits}
 use Rattle.life_check.specs.Soundness.{FitsSome, LivesOutside, MeetsNeeds, wants_request}
 use Rattle.life_check.specs.Typed.{IsTyped, IsLed, flows, exits, leads_on}

@@ -23,7 +23,6 @@ use Rattle.life_state.specs.declared.parts.Contents.TheVariants.{NoLateData}
 use Rattle.life_state.specs.States.{only_call, holds, Unset, State}
 use Rattle.life_state.proofs.Tests.{split3}
 use Rattle.life_check.specs.Certificates.{Certificate, AllBounded, IsBoundedSome}
-use Rattle.life_check.specs.ChainMeaning.{before}
 use Rattle.life_check.specs.Meaning.{ByConnection, ByCall, NoneLives, Between, FitsBrigade}
 use Rattle.life_check.specs.Soundness.{FitsSome}
 use Rattle.life_check.specs.Typed.{IsTyped, fits_between, fits_lines, main_from, request_end}
@@ -32,10 +31,7 @@ use Rattle.life_check.proofs.Lists.{each_of_all}
 use Rattle.life_check.proofs.Orders.{greater_fits}
 use Rattle.life_check.proofs.Standards.{resting, fits_flow, unset_differ, covers_begun}
 use Rattle.life_check.proofs.Starting.{calm_fits, between_unset}
-use Rattle.life_check.proofs.chains.Begun.{main_begins}
-use Rattle.life_check.proofs.chains.Beside.{covers_more, fits_among}
-use Rattle.life_check.proofs.chains.Ended.{before_unset, before_flows}
-use Rattle.life_check.proofs.chains.Ends.{ended_fits}
+use Rattle.life_check.proofs.alone.Calls.{before, main_begins, covers_more, fits_among, before_unset, before_flows, ended_fits}
 
 none_some : (n : ℕ) → None ≡ Some n → ⊥
 none_some n e = cc

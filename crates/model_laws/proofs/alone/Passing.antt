@@ -15,7 +15,7 @@ use Rattle.model_laws.specs.OpenRuns.{Standing, ToldOfMove, Passes, executed, At
 use Rattle.model_laws.proofs.Marks.{first_none, second_none}
 use Rattle.model_laws.proofs.StepFiles.{no_dead}
 
-abbrev MayBeBrought : Standing → List NamedBucket → Type 0
+abbrev pub MayBeBrought : Standing → List NamedBucket → Type 0
 MayBeBrought s items = (data_after_eos items ≡ false) × (s.now.instance.sent ≡ true → has_data items ≡ false) × (list_any is_dead items ≡ false)
 
 sent_so : (late sent bytes : Bool) (k : FaultKind) → cond (late || (sent && bytes)) (Some k) None ≡ None → (late ≡ false) × (sent ≡ true → bytes ≡ false)
@@ -27,7 +27,7 @@ sent_so false false bytes k none = (refl, λ e. absurd (cc))
 passed_is : (x y : List NamedBucket) → Passes x ≡ Passes y → x ≡ y
 passed_is x y e = cc
 
-pass_may : (p : Program) (s : Standing) (b l : ℕ) → fault p s.now (instr.Pass b l) ≡ None → MayBeBrought s (items_of (s.now.instance.brigades b))
+pub pass_may : (p : Program) (s : Standing) (b l : ℕ) → fault p s.now (instr.Pass b l) ≡ None → MayBeBrought s (items_of (s.now.instance.brigades b))
 pass_may p s b l none =
     let items : List NamedBucket = items_of (s.now.instance.brigades b) in
     let after = second_none (usable_fault (s.now.instance.brigades b)) _ none in

@@ -117,11 +117,11 @@ module _ (root : ℕ) where
   pub turn_bare : (chain : List Program) (g : Common) (c : Connection) (v : Linked) → EventTurn chain AnyLength g c v → ChainSound chain g c → root < c.conn → c.payloads root ≡ no_cleanups
       → v.1.payloads root ≡ no_cleanups
   unfolding begun all_called configuration run_down with_pools
-  turn_bare chain g c v (Stood out broken) s newer bare = bare
+  turn_bare chain g c v (Stood out broken still) s newer bare = bare
   turn_bare chain g c v (Went reads f rest whole may) s newer bare = went_bare chain reads f rest g c s newer bare
   turn_bare chain g c v (Begun whole idle none pools next) s newer bare =
       created_bare c.conn (pools_of g c) (let lt = conn_given (configuration g c (looking 0)) (s.pools.sound (looking 0)) in omega arith) bare
-  turn_bare chain g c v (Brought pieces req whole idle is there next) s newer bare = bare
+  turn_bare chain g c v (Brought pieces req whole idle is there next late) s newer bare = bare
   turn_bare chain g c v (FileTaken req file bytes whole idle is short newest last) s newer bare =
       registered_bare Plain req (FileRef file) (pools_of g c) (let lt = ((s.pools.sound (looking 0)).req req is).1 in omega arith) bare
   turn_bare chain g c v (Ended req whole idle is) s newer bare = emptied_bare req (pools_of g c) (destroyed req (pools_of g c)) (destroyed_emptied req (pools_of g c)) bare

@@ -166,7 +166,7 @@ module _ (chain : List Program) (g : Common) (c : Connection) (f : Frame) (beyon
 pub turn_beyond : (chain : List Program) (g : Common) (c : Connection) (v : Linked) → EventTurn chain AnyLength g c v → ChainSound chain g c → NoneBeyond chain c
     → NoneBeyond chain v.1
 unfolding begun all_called
-turn_beyond chain g c v (Stood out broken) s h = h
+turn_beyond chain g c v (Stood out broken still) s h = h
 turn_beyond chain g c v (Went reads f rest whole may) s h = proceeds_beyond chain g c f h (placed.of) reads _ rest (λ w more e. (waits w more e).of) where
   all : All (IsFramePlaced chain c.req) (f ∷ rest)
   all = subst (λ (fs : List Frame). All (IsFramePlaced chain c.req) fs) may.on_top s.calls.placed
@@ -177,7 +177,7 @@ turn_beyond chain g c v (Went reads f rest whole may) s h = proceeds_beyond chai
   waits : (w : Frame) (more : List Frame) → rest ≡ w ∷ more → IsFramePlaced chain c.req w
   waits w more e = All-head (IsFramePlaced chain c.req) w more (subst (λ (fs : List Frame). All (IsFramePlaced chain c.req) fs) e (All-tail (IsFramePlaced chain c.req) f rest all))
 turn_beyond chain g c v (Begun whole idle no_request pools next) s h = h
-turn_beyond chain g c v (Brought pieces req whole idle is there next) s h =
+turn_beyond chain g c v (Brought pieces req whole idle is there next late) s h =
     λ k b past. (let inside = first_in_places chain c.instances in ap (λ (x : Instance). x.brigades b) (upd_off c.instances (place_from chain c.instances 0) k _ (λ e. absurd (omega (arith, e, past, inside)))) ∙ h k b past)
 turn_beyond chain g c v (FileTaken req file bytes whole idle is short newer last) s h = h
 turn_beyond chain g c v (Ended req whole idle is) s h = λ k b past. ap (cleared_var (is_under (pools_of g c) req)) (h k b past)

@@ -105,12 +105,12 @@ module _ (T : ℕ → Call → Type 0) (keeps : KeepsCall MayGo T) where
   EachCall g c = All (λ f. T g.next f.call) c.stack
 
   turn_calls : (chain : List Program) (g : Common) (c : Connection) (v : Linked) → EventTurn chain AnyLength g c v → ChainSound chain g c → EachCall g c → EachCall v.0 v.1
-  turn_calls chain g c v (Stood out broken) s h = h
+  turn_calls chain g c v (Stood out broken still) s h = h
   turn_calls chain g c v (Went reads f rest whole may) s h =
       proceeds_on MayGo T keeps chain reads (current (module_at chain f.of) f.pc) f rest g c
       (may_step chain g c f rest may s, sound_top chain g c f rest may.on_top s) (subst (λ (fs : List Frame). All (λ w. T g.next w.call) fs) may.on_top h)
   turn_calls chain g c v (Begun whole idle none pools next) s h = begun_on MayGo T keeps chain g c
-  turn_calls chain g c v (Brought pieces req whole idle is there next) s h = one_fresh MayGo T keeps _ (place_from chain c.instances 0) g.next _
+  turn_calls chain g c v (Brought pieces req whole idle is there next late) s h = one_fresh MayGo T keeps _ (place_from chain c.instances 0) g.next _
   turn_calls chain g c v (FileTaken req file bytes whole idle is short newer last) s h = h
   turn_calls chain g c v (Ended req whole idle is) s h = subst (λ (fs : List Frame). All (λ w. T v.0.next w.call) fs) (sym idle) (All-nil (λ (f : Frame). T v.0.next f.call))
 

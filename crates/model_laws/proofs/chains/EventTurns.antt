@@ -28,8 +28,8 @@ OpensAs Lengths (Err r) = Unit {0}
 
 -- Lengths: which lengths an opened file may have.
 pub data EventTurn (chain : List Program) (Lengths : ℕ → Type 0) (g : Common) (c : Connection) : Linked → Type 0 where
-  -- nothing changes but the output, or why the connection is broken
-  Stood : (out : Out) (broken : Option Cause) → EventTurn chain Lengths g c (g, record c { out = out; broken = broken })
+  -- nothing changes but the output, or why the connection is broken; one that is broken stays so
+  Stood : (out : Out) (broken : Option Cause) → (broken ≡ None → c.broken ≡ None) → EventTurn chain Lengths g c (g, record c { out = out; broken = broken })
   -- the instruction of the call on top
   Went : (reads : Reads) (f : Frame) (rest : List Frame) → c.broken ≡ None → MayProceed chain g c f rest
       → EventTurn chain Lengths g c ((after_top chain reads g c f rest).0, record (after_top chain reads g c f rest).1 { count = (after_top chain reads g c f rest).1.count + 1 })
@@ -37,7 +37,7 @@ pub data EventTurn (chain : List Program) (Lengths : ℕ → Type 0) (g : Common
   Begun : c.broken ≡ None → c.stack ≡ [] → c.req ≡ None → g.pools + 1 < 2 ^ 64 → g.next + 1 < 2 ^ 64 → EventTurn chain Lengths g c (begun chain (g, c))
   -- a brigade is brought
   Brought : (pieces : List Piece) (req : ℕ) → c.broken ≡ None → c.stack ≡ [] → c.req ≡ Some req → list_any (lacks_file c.files) pieces ≡ false → g.next + (2 + length pieces) < 2 ^ 64
-      → EventTurn chain Lengths g c (brought_in chain pieces req (g, c))
+      → data_behind_eos pieces ≡ false → EventTurn chain Lengths g c (brought_in chain pieces req (g, c))
   -- a file is opened, under a number that was not given out
   FileTaken : (req file : ℕ) (bytes : List ℕ) → c.broken ≡ None → c.stack ≡ [] → c.req ≡ Some req → Lengths (length bytes) → g.file ≤ file → is_spent file 1 ≡ false
       → EventTurn chain Lengths g c (file_taken req file bytes (g, c))
@@ -45,11 +45,11 @@ pub data EventTurn (chain : List Program) (Lengths : ℕ → Type 0) (g : Common
   Ended : (req : ℕ) → c.broken ≡ None → c.stack ≡ [] → c.req ≡ Some req → EventTurn chain Lengths g c (request_over req (g, c))
 
 pub SameTurn : {chain : List Program} {Lengths : ℕ → Type 0} {g : Common} {c : Connection} → EventTurn chain Lengths g c (g, c)
-SameTurn {c = c} = Stood c.out c.broken
+SameTurn {c = c} = Stood c.out c.broken (λ e. e)
 
 -- the output is taken
 pub Drained : {chain : List Program} {Lengths : ℕ → Type 0} {g : Common} {c : Connection} → EventTurn chain Lengths g c (g, record c { out = record c.out { bytes = [] } })
-Drained {c = c} = Stood (record c.out { bytes = [] }) c.broken
+Drained {c = c} = Stood (record c.out { bytes = [] }) c.broken (λ e. e)
 
 pub not_broken : (b : Option Cause) (ts : List (Option Refusal)) → first_refusal (if_broken b ∷ ts) ≡ None → b ≡ None
 not_broken None ts h = refl
@@ -78,9 +78,9 @@ module _ (chain : List Program) (Lengths : ℕ → Type 0) (g : Common) (c : Con
       Begun (not_broken c.broken _ none) (not_busy c.stack b.0) (no_request c.req d.0) (not_spent g.pools 1 last.0) (not_spent g.next 1 last.1))
 
   brought_turn : (pieces : List Piece) (req : Option ℕ) → c.req ≡ req → c.broken ≡ None → c.stack ≡ [] → list_any (lacks_file c.files) pieces ≡ false → g.next + (2 + length pieces) < 2 ^ 64
-      → EventTurn chain Lengths g c (brought chain pieces req (g, c))
-  brought_turn pieces None is whole idle there last = SameTurn
-  brought_turn pieces (Some req) is whole idle there last = Brought pieces req whole idle is there last
+      → data_behind_eos pieces ≡ false → EventTurn chain Lengths g c (brought chain pieces req (g, c))
+  brought_turn pieces None is whole idle there last late = SameTurn
+  brought_turn pieces (Some req) is whole idle there last late = Brought pieces req whole idle is there last late
 
   pub brings_turn : (memory : Bool) (pieces : List Piece) → EventTurn chain Lengths g c (brings memory chain pieces (g, c)).1
   unfolding brings
@@ -91,7 +91,7 @@ module _ (chain : List Program) (Lengths : ℕ → Type 0) (g : Common) (c : Con
       let e = none_if (data_behind_eos pieces) refusal.DataAfterEos _ d.1 in
       let h = none_if (list_any (lacks_file c.files) pieces) refusal.NoFile _ e.1 in
       let i = none_if (is_spent g.next (2 + length pieces)) refusal.NamesSpent _ h.1 in
-      brought_turn pieces c.req refl (not_broken c.broken _ none) (not_busy c.stack b.0) h.0 (not_spent g.next (2 + length pieces) i.0))
+      brought_turn pieces c.req refl (not_broken c.broken _ none) (not_busy c.stack b.0) h.0 (not_spent g.next (2 + length pieces) i.0) e.0)
 
   file_turn : (o : Option Refusal) (req : Option ℕ) (opening : Opening) → c.req ≡ req → OpensAs Lengths (file_answer o req opening (g, c)).0
       → (o ≡ None → (c.broken ≡ None) × (c.stack ≡ []) × (is_spent (number_given g opening) 1 ≡ false))
@@ -126,6 +126,6 @@ module _ (chain : List Program) (Lengths : ℕ → Type 0) (g : Common) (c : Con
 
   pub steps_turn : IsChain chain → (memory : Bool) (budget : ℕ) (reads : Reads) → EventTurn chain Lengths g c (steps memory budget chain reads (g, c)).1
   steps_turn chained memory budget reads =
-      step_cases (EventTurn chain Lengths g c) memory budget chain reads g c SameTurn (λ k other. Stood c.out (Some k)) (λ f rest k whole top is. Stood c.out (Some cause.Faulted))
+      step_cases (EventTurn chain Lengths g c) memory budget chain reads g c SameTurn (λ k other. Stood c.out (Some k) (λ e. absurd (cc))) (λ f rest k whole top is. Stood c.out (Some cause.Faulted) (λ e. absurd (cc)))
       (λ f rest whole few ready. Went reads f rest whole
       (record { chained = chained; on_top = ready.on_top; faultless = ready.faultless; names_last = ready.names_last; calls_last = ready.calls_last }))

@@ -84,10 +84,10 @@ taken_opens req new bytes g c newer v last files = record {
 
 pub turn_opens : (chain : List Program) (g : Common) (c : Connection) (v : Linked) → EventTurn chain AnyLength g c v → OpensNew g c v
 unfolding begun all_called configuration run_down with_pools
-turn_opens chain g c v (Stood out broken) = none_new g c v (λ file is_open. is_open, refl)
+turn_opens chain g c v (Stood out broken still) = none_new g c v (λ file is_open. is_open, refl)
 turn_opens chain g c v (Went reads f rest whole may) = (let left = went_opens chain reads f rest g c in record { rises = left.rises; from = left.from })
 turn_opens chain g c v (Begun whole idle none pools next) = none_new g c v (λ file is_open. is_open, refl)
-turn_opens chain g c v (Brought pieces req whole idle is there next) = none_new g c v (λ file is_open. is_open, refl)
+turn_opens chain g c v (Brought pieces req whole idle is there next late) = none_new g c v (λ file is_open. is_open, refl)
 turn_opens chain g c v (FileTaken req file bytes whole idle is short newer last) = taken_opens req file bytes g c newer v refl refl
 turn_opens chain g c v (Ended req whole idle is) = none_new g c v (closes_some (run_order (pools_of g c) req) (destroyed req (pools_of g c)) (files_of g c))
 

@@ -231,12 +231,12 @@ over_files chain req g c idle s h =
 
 turn_files : (chain : List Program) (g : Common) (c : Connection) (v : Linked) → EventTurn chain AnyLength g c v → ChainSound chain g c → KeptConnection g c → KeptConnection v.0 v.1
 unfolding configuration
-turn_files chain g c v (Stood out broken) s h = record { lasts = h.lasts; held = record { brigades = h.held.brigades; loose = h.held.loose }; request = h.request; between = h.between }
+turn_files chain g c v (Stood out broken still) s h = record { lasts = h.lasts; held = record { brigades = h.held.brigades; loose = h.held.loose }; request = h.request; between = h.between }
 turn_files chain g c v (Went reads f rest whole may) s h =
     let left = went_files chain reads f rest g c may s h in
     record { lasts = left.lasts; held = record { brigades = left.held.brigades; loose = left.held.loose }; request = left.request; between = left.between }
 turn_files chain g c v (Begun whole idle none pools next) s h = begun_files chain g c (s.pools.sound (looking 0)).formed none h
-turn_files chain g c v (Brought pieces req whole idle is there next) s h = record {
+turn_files chain g c v (Brought pieces req whole idle is there next late) s h = record {
   lasts = h.lasts;
   held = brought_in_each (HasReference (pools_of g c)) chain pieces req g c
       (pieces_held (pools_of g c) c.files g.next req (g.next + 2) pieces there (λ file end has. h.request file end req has is)) h.held;

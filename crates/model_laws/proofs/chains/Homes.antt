@@ -172,10 +172,10 @@ over_homes req g c idle h =
 
 turn_homes : (chain : List Program) (g : Common) (c : Connection) (v : Linked) → EventTurn chain AnyLength g c v → ChainSound chain g c → ChainHomes g c → ChainHomes v.0 v.1
 unfolding configuration is_live registered_as
-turn_homes chain g c v (Stood out broken) s h = record { brigades = h.brigades; loose = h.loose }
+turn_homes chain g c v (Stood out broken still) s h = record { brigades = h.brigades; loose = h.loose }
 turn_homes chain g c v (Went reads f rest whole may) s h = (let left = went_homes chain reads f rest g c may s h in record { brigades = left.brigades; loose = left.loose })
 turn_homes chain g c v (Begun whole idle no_request pools next) s h = begun_homes chain g c idle h
-turn_homes chain g c v (Brought pieces req whole idle is there next) s h = brought_homes chain pieces req g c idle (path_live (pools_of g c) req req _ ((s.pools.sound (looking 0)).req req is).0) h
+turn_homes chain g c v (Brought pieces req whole idle is there next late) s h = brought_homes chain pieces req g c idle (path_live (pools_of g c) req req _ ((s.pools.sound (looking 0)).req req is).0) h
 turn_homes chain g c v (FileTaken req file bytes whole idle is short newer last) s h = record { brigades = h.brigades; loose = h.loose }
 turn_homes chain g c v (Ended req whole idle is) s h = over_homes req g c idle h
 

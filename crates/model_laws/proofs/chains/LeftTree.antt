@@ -65,23 +65,23 @@ module _ (chain : List Program) (ps : Pools Payload) (g : Common) (c : Connectio
 
   pub turn_within : (v : Linked) → EventTurn chain AnyLength g all v → StaysWithin c.conn whole (pools_of v.0 v.1)
   unfolding begun all_called configuration run_down with_pools registered_as
-  turn_within v (Stood out broken) = unturned v refl refl refl
+  turn_within v (Stood out broken still) = unturned v refl refl refl
   turn_within v (Went reads f rest sane may) =
       let i : Instr = current (module_at chain f.of) f.pc in
       let left = proceeds_so (λ new files next req. StaysWithin c.conn whole new) chain reads i f rest g all
       (λ choice. step_within c.conn (module_at chain f.of) (configuration g all f) (l.lies f) choice i may.faultless) (unturned (g, all) refl refl refl) in
       record { rises = left.rises; off = left.off; inside = left.inside }
   turn_within v (Begun sane idle none pools next) = changes_within Made c.conn c.conn whole has (part_under whole c.conn has)
-  turn_within v (Brought pieces req sane idle is there next) = unturned v refl refl refl
+  turn_within v (Brought pieces req sane idle is there next late) = unturned v refl refl refl
   turn_within v (FileTaken req file bytes sane idle is short newer last) = changes_within (Registered Plain (FileRef file)) c.conn req whole has (request req is)
   turn_within v (Ended req sane idle is) = changes_within Destroyed c.conn req whole has (request req is)
 
   turn_conn : (v : Linked) → EventTurn chain AnyLength g all v → v.1.conn ≡ c.conn
   unfolding begun all_called configuration run_down with_pools
-  turn_conn v (Stood out broken) = refl
+  turn_conn v (Stood out broken still) = refl
   turn_conn v (Went reads f rest sane may) = proceeds_conn chain reads (current (module_at chain f.of) f.pc) f rest g all
   turn_conn v (Begun sane idle none pools next) = refl
-  turn_conn v (Brought pieces req sane idle is there next) = refl
+  turn_conn v (Brought pieces req sane idle is there next late) = refl
   turn_conn v (FileTaken req file bytes sane idle is short newer last) = refl
   turn_conn v (Ended req sane idle is) = refl
 
@@ -92,10 +92,10 @@ module _ (chain : List Program) (ps : Pools Payload) (g : Common) (c : Connectio
 
     turn_spares : (v : Linked) → EventTurn chain AnyLength g all v → SparesTree v
     unfolding begun all_called configuration run_down with_pools registered_as
-    turn_spares v (Stood out broken) = same_next d whole whole refl
+    turn_spares v (Stood out broken still) = same_next d whole whole refl
     turn_spares v (Went reads f rest sane may) = top_spares d chain reads (current (module_at chain f.of) f.pc) f rest g all (l.lies f) other ne may.faultless
     turn_spares v (Begun sane idle none pools next) = others_stay Made c.conn d c.conn whole has other ne (part_under whole c.conn has)
-    turn_spares v (Brought pieces req sane idle is there next) = same_next d whole whole refl
+    turn_spares v (Brought pieces req sane idle is there next late) = same_next d whole whole refl
     turn_spares v (FileTaken req file bytes sane idle is short newer last) = others_stay (Registered Plain (FileRef file)) c.conn d req whole has other ne (request req is)
     turn_spares v (Ended req sane idle is) = others_stay Destroyed c.conn d req whole has other ne (request req is)
 

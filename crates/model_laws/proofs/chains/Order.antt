@@ -124,10 +124,10 @@ idle_vacant c idle h k = h k (subst (λ (fs : List Frame). has_call fs k ≡ fal
 
 turn_vacant : (chain : List Program) (g : Common) (c : Connection) (v : Linked) → EventTurn chain AnyLength g c v → Vacant c → Vacant v.1
 unfolding begun all_called
-turn_vacant chain g c v (Stood out broken) h = h
+turn_vacant chain g c v (Stood out broken still) h = h
 turn_vacant chain g c v (Went reads f rest whole may) h = proceeds_vacant chain reads (current (module_at chain f.of) f.pc) f rest g c may.on_top h
 turn_vacant chain g c v (Begun whole idle none pools next) h = λ k free. idle_vacant c idle h k
-turn_vacant chain g c v (Brought pieces req whole idle is there next) h =
+turn_vacant chain g c v (Brought pieces req whole idle is there next late) h =
     λ k free. (let parts = others_free _ _ k free in ap (λ (x : Instance). x.brigades 8) (upd_off c.instances (place_from chain c.instances 0) k _ parts.0) ∙ idle_vacant c idle h k)
 turn_vacant chain g c v (FileTaken req file bytes whole idle is short newer last) h = h
 turn_vacant chain g c v (Ended req whole idle is) h = λ k free. ap (cleared_var (is_under (pools_of g c) req)) (h k free)

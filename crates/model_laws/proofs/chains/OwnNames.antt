@@ -112,9 +112,9 @@ top_names chain reads i f rest g c = stepped_names chain f rest g c (module_at c
 -- After an event a variable names what it named, or a new pool.
 pub turn_names : (chain : List Program) (g : Common) (c : Connection) (v : Linked) → EventTurn chain AnyLength g c v → NamesFrom g c v
 unfolding begun all_called
-turn_names chain g c v (Stood out broken) = same_names g c v (λ k. refl)
+turn_names chain g c v (Stood out broken still) = same_names g c v (λ k. refl)
 turn_names chain g c v (Went reads f rest whole may) = top_names chain reads (current (module_at chain f.of) f.pc) f rest g c
 turn_names chain g c v (Begun whole idle none pools next) = same_names g c v (λ k. refl)
-turn_names chain g c v (Brought pieces req whole idle is there next) = same_names g c v (set_names c.instances (place_from chain c.instances 0) _ refl)
+turn_names chain g c v (Brought pieces req whole idle is there next late) = same_names g c v (set_names c.instances (place_from chain c.instances 0) _ refl)
 turn_names chain g c v (FileTaken req file bytes whole idle is short newer last) = same_names g c v (λ k. refl)
 turn_names chain g c v (Ended req whole idle is) = same_names g c v (λ k. refl)

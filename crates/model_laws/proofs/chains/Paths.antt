@@ -155,10 +155,10 @@ went_under chain reads f rest g c may s h =
 
 turn_under : (chain : List Program) (g : Common) (c : Connection) (v : Linked) → EventTurn chain AnyLength g c v → ChainSound chain g c → Under g c → Under v.0 v.1
 unfolding is_live is_under registered_as
-turn_under chain g c v (Stood out broken) s h = record { newer = h.newer; pools = h.pools }
+turn_under chain g c v (Stood out broken still) s h = record { newer = h.newer; pools = h.pools }
 turn_under chain g c v (Went reads f rest whole may) s h = (let left = went_under chain reads f rest g c may s h in record { newer = left.newer; pools = left.pools })
 turn_under chain g c v (Begun whole idle none pools next) s h = begun_under chain g c s.pools h
-turn_under chain g c v (Brought pieces req whole idle is there next) s h = record { newer = h.newer; pools = h.pools }
+turn_under chain g c v (Brought pieces req whole idle is there next late) s h = record { newer = h.newer; pools = h.pools }
 turn_under chain g c v (FileTaken req file bytes whole idle is short newer last) s h = record { newer = h.newer; pools = h.pools }
 turn_under chain g c v (Ended req whole idle is) s h = over_under req g c h
 

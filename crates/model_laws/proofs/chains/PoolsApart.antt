@@ -109,10 +109,10 @@ went_from chain reads f rest g c =
 
 turn_from : (chain : List Program) (g : Common) (c : Connection) (v : Linked) → EventTurn chain AnyLength g c v → TurnsFrom g c v
 unfolding begun all_called configuration run_down with_pools registered_as
-turn_from chain g c v (Stood out broken) = unturned g c v refl refl
+turn_from chain g c v (Stood out broken still) = unturned g c v refl refl
 turn_from chain g c v (Went reads f rest whole may) = (let left = went_from chain reads f rest g c in record { conn = left.conn; from = left.from })
 turn_from chain g c v (Begun whole idle none pools next) = record { conn = refl; from = created_from c.conn (pools_of g c) }
-turn_from chain g c v (Brought pieces req whole idle is there next) = unturned g c v refl refl
+turn_from chain g c v (Brought pieces req whole idle is there next late) = unturned g c v refl refl
 turn_from chain g c v (FileTaken req file bytes whole idle is short newer last) = unturned g c v refl refl
 turn_from chain g c v (Ended req whole idle is) = record { conn = refl; from = stays_from (pools_of g c) _ (destroyed_path req (pools_of g c)) }
 

@@ -228,7 +228,7 @@ opened_ranges chain g = record {
 
 turn_ranges : (chain : List Program) (g : Common) (c : Connection) (v : Linked) → EventTurn chain AnyLength g c v → ChainSound chain g c → ChainFiles g c → ChainFiles v.0 v.1 → ChainRanges g c
     → ChainRanges v.0 v.1
-turn_ranges chain g c v (Stood out broken) s held left h = record { lie = record { brigades = h.lie.brigades; loose = h.lie.loose }; told = h.told; given = h.given }
+turn_ranges chain g c v (Stood out broken still) s held left h = record { lie = record { brigades = h.lie.brigades; loose = h.lie.loose }; told = h.told; given = h.given }
 turn_ranges chain g c v (Went reads f rest whole may) s held left h =
     let files : ChainFiles (after_top chain reads g c f rest).0 (after_top chain reads g c f rest).1 = record {
       lasts = left.lasts;
@@ -240,7 +240,7 @@ turn_ranges chain g c v (Went reads f rest whole may) s held left h =
     let there = went_ranges chain reads f rest g c may s held files h in
     record { lie = record { brigades = there.lie.brigades; loose = there.lie.loose }; told = there.told; given = there.given }
 turn_ranges chain g c v (Begun whole idle none pools next) s held left h = begun_ranges chain g c none held h
-turn_ranges chain g c v (Brought pieces req whole idle is there next) s held left h = record {
+turn_ranges chain g c v (Brought pieces req whole idle is there next late) s held left h = record {
   lie = brought_in_each (LiesInFile (files_of g c)) chain pieces req g c (pieces_lie (files_of g c) c.files g.next req (g.next + 2) pieces there (h.told req is)) h.lie;
   told = h.told;
   given = h.given;

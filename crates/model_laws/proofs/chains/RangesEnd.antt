@@ -68,20 +68,20 @@ unfolding opened all_called
 no_lengths chain g = All-nil (λ f. IsShortLength f.1)
 
 turn_ends : (chain : List Program) (Lengths : ℕ → Type 0) (g : Common) (c : Connection) (v : Linked) → EventTurn chain Lengths g c v → ChainEnds c → BucketsEnd v.1
-turn_ends chain Lengths g c v (Stood out broken) h = record { brigades = h.ends.brigades; loose = h.ends.loose }
+turn_ends chain Lengths g c v (Stood out broken still) h = record { brigades = h.ends.brigades; loose = h.ends.loose }
 turn_ends chain Lengths g c v (Went reads f rest whole may) h =
     (let left = proceeds_end chain reads f rest (current (module_at chain f.of) f.pc) g c may.on_top h.ends in record { brigades = left.brigades; loose = left.loose })
 turn_ends chain Lengths g c v (Begun whole idle none pools next) h = begun_each (λ x. EndsInFile x.bucket.content) chain g c h.ends
-turn_ends chain Lengths g c v (Brought pieces req whole idle is there next) h = bring_ends chain pieces req g c (told_end c.files pieces h.lengths there) h.ends
+turn_ends chain Lengths g c v (Brought pieces req whole idle is there next late) h = bring_ends chain pieces req g c (told_end c.files pieces h.lengths there) h.ends
 turn_ends chain Lengths g c v (FileTaken req file bytes whole idle is short newer last) h = record { brigades = h.ends.brigades; loose = h.ends.loose }
 turn_ends chain Lengths g c v (Ended req whole idle is) h = request_over_each (λ x. EndsInFile x.bucket.content) (λ x. EndsInFile x.bucket.content) req g c idle (λ x e. e) h.ends
 
 turn_lengths : (chain : List Program) (g : Common) (c : Connection) (v : Linked) → EventTurn chain IsShortLength g c v → LengthsEnd c.files → LengthsEnd v.1.files
 unfolding begun all_called
-turn_lengths chain g c v (Stood out broken) h = h
+turn_lengths chain g c v (Stood out broken still) h = h
 turn_lengths chain g c v (Went reads f rest whole may) h = subst LengthsEnd (sym (proceeds_files chain reads (current (module_at chain f.of) f.pc) f rest g c)) h
 turn_lengths chain g c v (Begun whole idle none pools next) h = h
-turn_lengths chain g c v (Brought pieces req whole idle is there next) h = h
+turn_lengths chain g c v (Brought pieces req whole idle is there next late) h = h
 turn_lengths chain g c v (FileTaken req file bytes whole idle is short newer last) h =
     All-append (λ f. IsShortLength f.1) c.files ((file, length bytes) ∷ []) h (All-cons (λ f. IsShortLength f.1) (file, length bytes) [] short (All-nil (λ f. IsShortLength f.1)))
 turn_lengths chain g c v (Ended req whole idle is) h = All-nil (λ f. IsShortLength f.1)

@@ -450,7 +450,7 @@ fresh_reads d v unset = (λ n e. absurd (unset_at n (v.call.cursors read_cursor)
 turn_reads : (chain : List Program) (g : Common) (c : Connection) (v : Linked) → EventTurn chain AnyLength g c v → ChainSound chain g c → NoneBeyond chain v.1 → ReadsKept chain g c
     → StackReads v.1 v.1.stack
 unfolding begun all_called
-turn_reads chain g c v (Stood out broken) s none h = same_reads c _ refl refl c.stack h.reads
+turn_reads chain g c v (Stood out broken still) s none h = same_reads c _ refl refl c.stack h.reads
 turn_reads chain g c v (Went reads f rest whole may) s none h =
     let left : Linked = after_top chain reads g c f rest in
     same_reads left.1 _ refl refl left.1.stack
@@ -459,7 +459,7 @@ turn_reads chain g c v (Went reads f rest whole may) s none h =
     (subst (AreNamed g.next) may.on_top s.calls.named) (subst (λ (fs : List Frame). All (λ w. HoldsGiven g.next w.call) fs) may.on_top h.cursors) h.homes s (subst (StackReads c) may.on_top h.reads)
     (top_keeps_names chain reads g c f rest may s) none)
 turn_reads chain g c v (Begun whole idle no_request pools next) s none h = fresh_reads _ _ refl
-turn_reads chain g c v (Brought pieces req whole idle is there next) s none h = fresh_reads _ _ refl
+turn_reads chain g c v (Brought pieces req whole idle is there next late) s none h = fresh_reads _ _ refl
 turn_reads chain g c v (FileTaken req file bytes whole idle is short newer last) s none h = no_reads _ c.stack idle
 turn_reads chain g c v (Ended req whole idle is) s none h = no_reads _ c.stack idle
 

@@ -248,12 +248,12 @@ over_registered req g c h =
           made_spared (is_under (pools_of g c) req) (c.instances k) ((request_over req (g, c)).1.instances k) (λ b. spared (is_under (pools_of g c) req) ((c.instances k).brigades b)) name p
 
 turn_registered : (chain : List Program) (g : Common) (c : Connection) (v : Linked) → EventTurn chain AnyLength g c v → ChainSound chain g c → ChainRegistered g c → ChainRegistered v.0 v.1
-turn_registered chain g c v (Stood out broken) s h = record { once = h.once; only = h.only }
+turn_registered chain g c v (Stood out broken still) s h = record { once = h.once; only = h.only }
 turn_registered chain g c v (Went reads f rest whole may) s h =
     let left = top_registered chain g c f s h (sound_top chain g c f rest may.on_top s) reads (current (module_at chain f.of) f.pc) rest (may_step chain g c f rest may s) in
     record { once = left.once; only = left.only }
 turn_registered chain g c v (Begun whole idle none pools next) s h = begun_registered chain g c s h
-turn_registered chain g c v (Brought pieces req whole idle is there next) s h = brought_registered chain pieces req g c s h
+turn_registered chain g c v (Brought pieces req whole idle is there next late) s h = brought_registered chain pieces req g c s h
 turn_registered chain g c v (FileTaken req file bytes whole idle is short newer last) s h = taken_registered req file bytes g c h
 turn_registered chain g c v (Ended req whole idle is) s h = over_registered req g c h
 

@@ -52,7 +52,7 @@ same_rises g has = record { next = omega arith; next_limit = has.next; pools = o
 
 pub turn_sound : (chain : List Program) (Lengths : ℕ → Type 0) (g : Common) (c : Connection) (v : Linked) → IsChain chain → HasNames g → EventTurn chain Lengths g c v → ChainSound chain g c
     → ChainSound chain v.0 v.1
-turn_sound chain Lengths g c v chained has (Stood out broken) s = marked_sound chain g c _ refl refl refl refl refl refl s
+turn_sound chain Lengths g c v chained has (Stood out broken still) s = marked_sound chain g c _ refl refl refl refl refl refl s
 turn_sound chain Lengths g c v chained has (Went reads f rest whole may) s =
     let left : Linked = after_top chain reads g c f rest in
     marked_sound chain left.0 left.1 _ refl refl refl refl refl refl (record {
@@ -67,7 +67,7 @@ turn_sound chain Lengths g c v chained has (Begun whole idle none pools next) s 
   pools = begun_pools chain g c none pools s.pools;
   calls = begun_calls chain g c (module_at_proper chain chained 0) chained.some has.first;
 }
-turn_sound chain Lengths g c v chained has (Brought pieces req whole idle is there next) s = record {
+turn_sound chain Lengths g c v chained has (Brought pieces req whole idle is there next late) s = record {
   names = brought_in_names chain pieces req g c next s.names;
   buckets = brought_in_buckets chain pieces req g c s.buckets;
   pools = brought_in_pools chain pieces req g c s.pools;
@@ -87,9 +87,9 @@ turn_sound chain Lengths g c v chained has (Ended req whole idle is) s = record 
 }
 
 pub turn_rises : (chain : List Program) (Lengths : ℕ → Type 0) (g : Common) (c : Connection) (v : Linked) → HasNames g → EventTurn chain Lengths g c v → ChainSound chain g c → Rises g v.0
-turn_rises chain Lengths g c v has (Stood out broken) s = same_rises g has
+turn_rises chain Lengths g c v has (Stood out broken still) s = same_rises g has
 turn_rises chain Lengths g c v has (Went reads f rest whole may) s = top_raises_names chain reads g c f rest may s
 turn_rises chain Lengths g c v has (Begun whole idle none pools next) s = begun_raises chain g c next pools
-turn_rises chain Lengths g c v has (Brought pieces req whole idle is there next) s = brought_in_raises chain pieces req g c next has.pools.1
+turn_rises chain Lengths g c v has (Brought pieces req whole idle is there next late) s = brought_in_raises chain pieces req g c next has.pools.1
 turn_rises chain Lengths g c v has (FileTaken req file bytes whole idle is told newer last) s = file_taken_raises req file bytes g c has.next has.pools.1
 turn_rises chain Lengths g c v has (Ended req whole idle is) s = request_over_raises req g c has.next has.pools.1

@@ -2,7 +2,7 @@
 use Rattle.life_check.specs.Slim.{meant, Accepts}
 use Rattle.life_check.proofs.Meant.{accepted}
 use Rattle.life_check.proofs.alone.Safe.{typed_is_safe}
-use Rattle.life_check.proofs.chains.Never.{typed_alone_never_faults}
+use Rattle.life_check.proofs.SafeChains.{typed_alone_never_faults}
 use Rattle.life_check.proofs.checked.check.Goals as goal
 
 pub returns-clause-accepts : goal.returns-clause-accepts

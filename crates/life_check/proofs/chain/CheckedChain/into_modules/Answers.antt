@@ -1,6 +1,6 @@
 use Rattle.std.proofs.Common.{subst}
 use Rattle.life_check.specs.ChainTheorem.{ChainNeverFaults}
-use Rattle.life_check.proofs.chains.Never.{checked_never_faults}
+use Rattle.life_check.proofs.SafeChains.{checked_never_faults}
 use Rattle.life_check.proofs.chain.CheckedChain.into_modules.Goals as goal
 
 pub returns-clause-safe : goal.returns-clause-safe

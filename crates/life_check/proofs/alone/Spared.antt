@@ -1,27 +1,22 @@
 -- What another call does to a call that waits: buckets change in place, and none of their homes that is covered is hit.
-use Rattle.std.proofs.Common.{◌≡◌, ℕ, cond, List, map, Some, inl, inr, refl, sym, ◌∙◌, ap, subst, ne_eqb}
-use mathlib.Core.List.{map-id}
-use Rattle.module_code.specs.Program.{Program}
+use Rattle.std.proofs.Common.{◌≡◌, ℕ, List, map, Some, inl, inr, refl, sym, ◌∙◌, ap, subst}
 use Rattle.run_model.specs.declared.bucket.BrigadeVar.{BrigadeVar}
 use Rattle.run_model.specs.declared.bucket.BrigadeVar.TheVariants as var
 use Rattle.run_model.specs.declared.bucket.Cursor.{Cursor}
 use Rattle.run_model.specs.declared.bucket.Cursor.TheVariants as cursor
-use Rattle.std.proofs.lemmas.Bool.{cases_eq}
 use Rattle.run_model.specs.declared.bucket.Home.{Home}
-use Rattle.run_model.specs.declared.bucket.Home.TheVariants as home
 use Rattle.run_model.specs.declared.bucket.Mark.{Mark}
 use Rattle.run_model.specs.declared.bucket.Mark.TheVariants.{Usable, Passed}
 use Rattle.run_model.specs.declared.bucket.NamedBucket.{NamedBucket}
 use Rattle.run_model.specs.BrigadeLists.{bucket_named}
 use Rattle.run_model.specs.BucketSteps.{items_at}
-use Rattle.run_model.specs.Buckets.{end_call}
 use Rattle.run_model.specs.Faults.{usable_fault}
 use Rattle.run_model.specs.Sound.{brigade_name}
-use Rattle.run_model.specs.State.{Configuration, PoolView, items_of}
+use Rattle.run_model.specs.State.{Configuration, items_of}
 use Rattle.life_state.specs.declared.parts.Classes.{Classes}
 use Rattle.life_state.specs.declared.parts.PoolState.{PoolState}
 use Rattle.life_state.specs.States.{Homes, BrigadeKnown, CursorKnown, Unset, Loose, In, End, InOrEnd, State}
-use Rattle.life_check.specs.Meaning.{Covers, class_has, FitsPool, FitsMark, FitsBrigade, IsAtBucketOf, IsEndOf, FitsCursor, Differ, Fits}
+use Rattle.life_check.specs.Meaning.{class_has, FitsPool, FitsMark, FitsBrigade, IsAtBucketOf, IsEndOf, FitsCursor, Differ, Fits}
 use Rattle.life_check.proofs.Lists.{each_map, IsSorted, holds_map, map_found, named_map}
 
 -- a brigade's buckets change in place
@@ -29,11 +24,6 @@ abbrev pub mapped : (NamedBucket → NamedBucket) → BrigadeVar → BrigadeVar
 mapped f var.Null = var.Null
 mapped f var.Gone = var.Gone
 mapped f (var.Live v) = var.Live (record v { items = map f v.items })
-
-pub mapped_none : (v : BrigadeVar) → v ≡ mapped (λ x. x) v
-mapped_none var.Null = refl
-mapped_none var.Gone = refl
-mapped_none (var.Live v) = ap (λ (xs : List NamedBucket). var.Live (record v { items = xs })) (sym (map-id v.items))
 
 pub record SparesHomes (C D : Homes → Home → Type 0) (f : NamedBucket → NamedBucket) (r new : Configuration) : Type 0 where
   pub names : (x : NamedBucket) → (f x).name ≡ x.name
@@ -119,14 +109,3 @@ module _ (C D : Homes → Home → Type 0) (f : NamedBucket → NamedBucket) (r 
     cursors = λ c. subst (λ (k : ℕ → Cursor). FitsCursor D new (a.cursors c) (k c)) (sym s.cursors) (cursor_spared (a.cursors c) (r.call.cursors c) (g.cursors c));
     facts = λ c d h. subst (λ (k : ℕ → Cursor). Differ (k c) (k d)) (sym s.cursors) (g.facts c d h);
   }
-
--- A return of another call, which does not live through this one.
-pub covers_returned : (p : Program) (v : PoolView) (lives : Home → Type 0) (call : ℕ) → (lives (home.Call call) → ⊥) → (h : Homes) (x : Home) → Covers p v lives h x
-    → Covers p v lives h (end_call call x)
-covers_returned p v lives call not h home.Free c = tt
-covers_returned p v lives call not h (home.Call n) c = elim (cases_eq n call) [
-  | inl same ↦ absurd (not (subst (λ (k : ℕ). lives (home.Call k)) same c.1))
-  | inr differ ↦ subst (λ b. Covers p v lives h (cond b home.Ended (home.Call n))) (sym (ne_eqb n call differ)) c
-]
-covers_returned p v lives call not h (home.Pool n) c = c
-covers_returned p v lives call not h home.Ended c = c
