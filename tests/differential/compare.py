@@ -1,7 +1,7 @@
 #!/usr/bin/env python3
 """Plays random scripts with a program and with the reading of its rules, or with two programs, and compares the answers.
 
-    python3 tests/differential/compare.py [N] [SEED] [--program PATH] [--with PATH] [--keep FOLDER]
+    python3 tests/differential/compare.py [N] [SEED] [--program PATH] [--with PATH] [--keep FOLDER] [--loops]
     python3 tests/differential/compare.py --alone [N] [SEED]
 """
 import argparse
@@ -11,6 +11,7 @@ import subprocess
 import tempfile
 import time
 
+import byte_loops
 from generator import random_script
 from reading.counts import table
 from reading.scripts import TooBig, play
@@ -109,14 +110,16 @@ def main():
     parser.add_argument('--keep', default=tempfile.gettempdir(), help='the folder for a script with a difference')
     parser.add_argument('--counts', action='store_true', help='tell how often what arose')
     parser.add_argument('--alone', action='store_true', help='play the reading alone, and tell how often what arose')
+    parser.add_argument('--loops', action='store_true', help='scripts with a loop over bytes; some are slow to play with the reading')
     options = parser.parse_args()
+    script_of = byte_loops.random_script if options.loops else random_script
     if options.alone:
-        return count_alone(random_script(generator_of(options.seed, number)) for number in range(options.n))
+        return count_alone(script_of(generator_of(options.seed, number)) for number in range(options.n))
     names = (options.other or 'reading', 'program')
     players = (answer_of(options.other) if options.other else read_answer, answer_of(options.program))
     start = time.monotonic()
     for number in range(options.n):
-        script = random_script(generator_of(options.seed, number))
+        script = script_of(generator_of(options.seed, number))
         if differs(players, script):
             path = os.path.join(options.keep, 'difference_%s_%d' % (options.seed.replace('/', '_'), number))
             report(players, names, script, path)

@@ -5,3 +5,5 @@ pub mod LiveContents
 pub mod LateVisits
 pub mod RoundSteps
 pub mod ByteWalks
+pub mod TraceSteps
+pub mod TraceWalks

@@ -2,3 +2,4 @@ pub mod QuietSteps
 pub mod OnlyAsked
 pub mod Prelude
 pub mod ByteRounds
+pub mod Traces

@@ -11,5 +11,7 @@ mod needs;
 mod places;
 mod pool_wants;
 pub mod quiet_steps;
+mod trace_walks;
+mod traces;
 mod walks;
 pub mod wants;
