@@ -1,6 +1,8 @@
-/* What a session of the static library costs: times of calls, and memory. The argument is a module's file.
+/* What a session of the static library costs: times of calls, and memory. The argument is a module's file. With a number behind it: makes so
+ * many requests of 2 bytes, each on a connection of its own, and tells nothing, for a tool that counts instructions.
  *
- *     cc -O2 bench/session_costs.c httpd/checked_session.c -Ihttpd libhost_lib.a -lpthread */
+ *     cc -O2 bench/session_costs.c httpd/checked_session.c -Ihttpd libhost_lib.a -lpthread -o session_costs
+ *     valgrind --tool=callgrind ./session_costs filters/new.module 1000 */
 #include "checked_session.h"
 #include <stdio.h>
 #include <stdlib.h>
@@ -32,8 +34,8 @@ static void run(struct session *session, uint64_t number, uint32_t code)
     must(session_run(session, number, UINT64_MAX));
 }
 
-/* A request of a length, in calls of at most 64 KiB. */
-static void request(struct session *session, uint64_t number, size_t length)
+/* A request of a length, in calls of at most 64 KiB, which does not end. */
+static void begin_and_bring(struct session *session, uint64_t number, size_t length)
 {
     run(session, number, session_begin(session, number));
     do {
@@ -46,7 +48,26 @@ static void request(struct session *session, uint64_t number, size_t length)
         run(session, number, session_bring(session, number));
         session_output(session, number, out, sizeof out);
     } while (length);
+}
+
+static void request(struct session *session, uint64_t number, size_t length)
+{
+    begin_and_bring(session, number, length);
     must(session_end(session, number));
+}
+
+/* Requests as httpd has them where a connection of the chain is one request. */
+static void count(struct chain *chain, long requests)
+{
+    while (requests-- > 0) {
+        uint64_t number;
+        struct session *session = session_take(chain, 1000000, SIZE_MAX);
+        if (!session)
+            exit(1);
+        run(session, number, session_open(session, &number));
+        begin_and_bring(session, number, 2);
+        session_give(chain, session, number);
+    }
 }
 
 static double mean_held(struct session **sessions)
@@ -67,9 +88,14 @@ int main(int argc, char **argv)
     double start;
     chain_begin(&chain);
     memset(bytes, 'a', sizeof bytes);
-    if (argc != 2 || !chain_add(&chain, argv[1], why, sizeof why) || !chain_check(&chain, why, sizeof why)) {
-        printf("%s\n", argc == 2 ? why : "session_costs MODULE");
+    if (argc < 2 || argc > 3 || !chain_add(&chain, argv[1], why, sizeof why) || !chain_check(&chain, why, sizeof why)) {
+        printf("%s\n", argc == 2 || argc == 3 ? why : "session_costs MODULE [REQUESTS]");
         return 1;
+    }
+    if (argc == 3) {
+        count(&chain, atol(argv[2]));
+        chain_free(&chain);
+        return 0;
     }
     start = now();
     for (int k = 0; k < SESSIONS; k++)

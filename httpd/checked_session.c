@@ -13,8 +13,9 @@ enum {
     IDLE_MOST = 1024      /* sessions that are kept */
 };
 
-/* The session whose call this thread is in; null where nothing is counted. */
-static _Thread_local struct session *in_hand;
+/* The session whose call this thread is in; null where nothing is counted. Each block that is taken or freed reads it, and by this model
+ * without a call. */
+static _Thread_local struct session *in_hand __attribute__((tls_model("initial-exec")));
 
 static unsigned char no_block[16];
 
@@ -36,10 +37,24 @@ static struct rattle_tried counted(void *p, size_t before)
     return (struct rattle_tried){true, p};
 }
 
+/* A small block that the session freed before; else a new one, whose size is one of those of the lists. */
+static void *small_block(struct session *session, size_t wanted)
+{
+    size_t list = (wanted + 15) / 16;
+    void *p = session->small[list];
+    if (!p)
+        return malloc(16 * list);
+    session->small[list] = *(void **)p;
+    session->small_held -= list;
+    return p;
+}
+
 struct rattle_tried rattle_alloc(size_t size, size_t align)
 {
     size_t wanted = size ? size : align;
-    return counted(may_hold(wanted) ? malloc(wanted) : NULL, 0);
+    if (!may_hold(wanted))
+        return counted(NULL, 0);
+    return counted(in_hand && wanted <= 16 * SMALL_SIZES ? small_block(in_hand, wanted) : malloc(wanted), 0);
 }
 
 struct rattle_tried rattle_realloc(void *p, size_t kept, size_t size, size_t align)
@@ -53,9 +68,27 @@ struct rattle_tried rattle_realloc(void *p, size_t kept, size_t size, size_t ali
 
 void rattle_dealloc(void *p)
 {
-    if (in_hand)
-        in_hand->held -= malloc_usable_size(p);
+    struct session *session = in_hand;
+    if (session) {
+        size_t bytes = malloc_usable_size(p), list = bytes / 16;
+        session->held -= bytes;
+        if (list <= SMALL_SIZES && session->small_held + list <= SMALL_MOST) {
+            *(void **)p = session->small[list];
+            session->small[list] = p;
+            session->small_held += list;
+            return;
+        }
+    }
     free(p);
+}
+
+static void free_small(struct session *session)
+{
+    for (size_t list = 0; list <= SMALL_SIZES; list++)
+        for (void *p = session->small[list], *next; p; p = next) {
+            next = *(void **)p;
+            free(p);
+        }
 }
 
 void chain_begin(struct chain *chain)
@@ -135,6 +168,7 @@ static void end_session(struct session *session)
     in_hand = session;
     cidawru_free(&session->handle);
     in_hand = NULL;
+    free_small(session);
     free(session);
 }
 
@@ -156,6 +190,7 @@ static struct session *new_session(const struct chain *chain, uint64_t budget, s
     session->most = limit;
     if (made)
         return session;
+    free_small(session);
     free(session);
     return NULL;
 }

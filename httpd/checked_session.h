@@ -20,10 +20,17 @@ enum {
     CHAIN_HOLD = 65536           /* bytes of output that are held before the first are passed on */
 };
 
+enum {
+    SMALL_SIZES = 192, /* lists of freed blocks: those of list k have 16 k bytes */
+    SMALL_MOST = 2048  /* 16 bytes each, in all of them */
+};
+
 struct session {
     struct cidawru handle;
     uint64_t budget;   /* instructions that a call may execute */
     size_t held, most; /* bytes of memory that the library holds for it, and may hold */
+    void *small[SMALL_SIZES + 1]; /* blocks that it freed, to be taken again; `held` is without them */
+    size_t small_held;
     bool limited;      /* it was refused some, since it was taken */
     bool spent;        /* no name is left: it is not used again */
     struct session *next;

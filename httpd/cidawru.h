@@ -83,8 +83,7 @@ enum {
     CIDAWRU_NO_KIND,        /* cidawru_piece alone: there is no such kind */
     CIDAWRU_NO_SESSION,     /* the handle holds none */
     CIDAWRU_NO_FILE,        /* of a file: not answered, since no piece is one */
-    CIDAWRU_BROKE_FAULT,    /* the connection is broken by a fault: not answered, since none comes */
-    CIDAWRU_FAULT           /* an instruction had a fault: not answered, which is proved */
+    CIDAWRU_FAULT           /* an instruction had a fault, now or before: not answered, which is proved */
 };
 
 /* The kinds of pieces. A TRANSIENT piece's bytes are copied too: the word is what the filters see. */

@@ -188,15 +188,19 @@ static apr_status_t fail(ap_filter_t *filter, struct response *response, uint32_
 static uint32_t bring(ap_filter_t *filter, struct response *response)
 {
     struct bound *bound = response->bound;
+    char few[512]; /* takes a short output at once, whose length is not known before */
     uint32_t code = to_end(bound, session_bring(bound->session, bound->number));
-    apr_size_t length = session_output(bound->session, bound->number, "", 0);
+    apr_size_t length = session_output(bound->session, bound->number, few, sizeof few);
     response->pending = 0;
     response->waits = 0;
     if (code == CIDAWRU_DONE && length > 0) {
         char *bytes = apr_bucket_alloc(length, filter->c->bucket_alloc);
         if (!bytes)
             return CIDAWRU_NO_MEMORY;
-        session_output(bound->session, bound->number, bytes, length);
+        if (length <= sizeof few)
+            memcpy(bytes, few, length);
+        else
+            session_output(bound->session, bound->number, bytes, length);
         APR_BRIGADE_INSERT_TAIL(response->out, apr_bucket_heap_create(bytes, length, apr_bucket_free, filter->c->bucket_alloc));
         response->held += length;
     }

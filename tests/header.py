@@ -15,7 +15,7 @@ SOURCES = os.path.join(TOP, 'crates', 'host_lib', 'src')
 HEADER = os.path.join(TOP, 'httpd', 'cidawru.h')
 
 # How a type of Rattle is declared in C. A slice is a pointer and a length; a Global has no bytes.
-STRUCTS = {'Handle': 'cidawru', 'Told': 'cidawru_told', 'Lengths': 'cidawru_lengths'}
+STRUCTS = {'Handle': 'cidawru', 'LoadTold': 'cidawru_told', 'TextLengths': 'cidawru_lengths'}
 NUMBERS = {'u64': 'uint64_t', 'u32': 'uint32_t', 'usize': 'size_t', 'bool': 'bool', 'u8': 'unsigned char', '': 'void'}
 # The names of a const of the code begin so in the header: those of answers.rt, and those of told.rt.
 NUMBERED = {'answers.rt': 'CIDAWRU_', 'told.rt': 'CIDAWRU_TOLD_'}
@@ -82,7 +82,7 @@ def fields(file, name):
     """The fields of a struct, as C has them; those of the slot stand in its place."""
     found = []
     for field, kind in struct_in_code(file, name):
-        found += fields('handle.rt', 'Slot') if kind == 'Slot' else ['%s%s%s' % (kind, '' if kind.endswith('*') else ' ', field)]
+        found += fields('handle.rt', 'SessionSlot') if kind == 'SessionSlot' else ['%s%s%s' % (kind, '' if kind.endswith('*') else ' ', field)]
     return found
 
 
@@ -122,7 +122,7 @@ def faults():
         for name in sorted(due.keys() | found.keys()):
             if due.get(name) != found.get(name):
                 wrong.append('httpd/cidawru.h: %s %s is %s, due is %s' % (what, name, found.get(name), due.get(name)))
-    for file, name in (('handle.rt', 'Handle'), ('told.rt', 'Told'), ('loading.rt', 'Lengths')):
+    for file, name in (('handle.rt', 'Handle'), ('told.rt', 'LoadTold'), ('loading.rt', 'TextLengths')):
         due, found = fields(file, name), struct_in_c(text, STRUCTS[name])
         if due != found:
             wrong.append('httpd/cidawru.h: struct %s is %s, due is %s' % (STRUCTS[name], found, due))

@@ -17,6 +17,7 @@ pub mod HostAdds
 pub mod HostFails
 pub mod Safety
 pub mod Faultless
+pub mod Unfaulted
 pub mod HostCloses
 pub mod Driving
 pub mod Going

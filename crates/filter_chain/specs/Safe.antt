@@ -1,11 +1,13 @@
--- A host on a chain that was checked: no call answers a fault.
-use Rattle.std.specs.Prelude.{◌≡◌, ℕ, List, Some, Result}
+-- A host on a chain that was checked: no call answers a fault, and no connection is broken by one.
+use Rattle.std.specs.Prelude.{◌≡◌, ◌≢◌, ℕ, List, Some, Result}
 use Rattle.module_code.specs.Program.{Program}
+use Rattle.run_model.specs.declared.event.Cause.TheVariants as cause
 use Rattle.run_model.specs.declared.event.Event.{Event}
 use Rattle.run_model.specs.declared.event.Refusal.{Refusal}
+use Rattle.run_model.specs.declared.event.Refusal.TheVariants as refusal
 use Rattle.run_model.specs.declared.event.Stepped.{Stepped}
 use Rattle.run_model.specs.Chains.{Connection}
-use Rattle.run_model.specs.Worlds.{World}
+use Rattle.run_model.specs.Worlds.{World, Answer, Refused}
 use Rattle.model_laws.specs.Reached.{IsReached}
 use Rattle.life_check.specs.ChainTheorem.{ChainNeverFaults, IsNoFault}
 use Rattle.module_run.specs.Stepping.{NextIsFaultless}
@@ -29,3 +31,17 @@ ReachedWorldsAnswerNoFault = (budget : ℕ) (chain : List Program) (number : ℕ
 abbrev pub ReachedCallsAreFaultless : Type 0
 ReachedCallsAreFaultless = (budget : ℕ) (chain : List Program) (w : World) (number : ℕ) (c : Connection) → ChainNeverFaults chain → IsReached budget chain w
     → w.conns number ≡ Some c → NextIsFaultless budget chain (w.common, c)
+
+-- There no connection is broken by a fault.
+abbrev pub ReachedConnectionsAreUnfaulted : Type 0
+ReachedConnectionsAreUnfaulted = (budget : ℕ) (chain : List Program) (w : World) (number : ℕ) (c : Connection) → ChainNeverFaults chain → IsReached budget chain w
+    → w.conns number ≡ Some c → c.broken ≢ Some cause.Faulted
+
+-- This is not refused for a fault that broke the connection.
+abbrev pub IsUnfaulted : Answer → Type 0
+IsUnfaulted answer = answer ≢ Refused (refusal.Broken cause.Faulted)
+
+-- Where an event leads to a world that some events lead to, it was not refused for a fault.
+abbrev pub ReachedWorldsAnswerUnfaulted : Type 0
+ReachedWorldsAnswerUnfaulted = (budget : ℕ) (chain : List Program) (number : ℕ) (what : Event) (old new : HostView) (answer : Answer) → ChainNeverFaults chain → IsReached budget chain new.world
+    → Answers budget chain number what old answer new → IsUnfaulted answer

@@ -8,7 +8,7 @@ use Rattle.std.proofs.lemmas.List.Sums.{sum_by_more, sum_by-take-le}
 use Rattle.std.proofs.lemmas.Option.{slice_get_within, slice_get-get_or, get_or_from_slice_get}
 use Rattle.script_text.specs.Heads.{ScriptPart, seen_part}
 use Rattle.script_text.specs.declared.part.ScriptModule.{ScriptModule}
-use Rattle.host_lib.specs.declared.loading.Lengths.{Lengths}
+use Rattle.host_lib.specs.declared.loading.TextLengths.{TextLengths}
 use Rattle.host_lib.specs.Texts.{AreFront, FitTexts, IsPartOf, IsTextsAt, both_of, start_of, texts_from}
 
 -- one of these, or the last
@@ -19,7 +19,7 @@ get_split (x ∷ xs) y zero z e = inl e
 get_split (x ∷ xs) y (suc i) z e = elim (get_split xs y i z e) [ inl there ↦ inl there | inr last ↦ inr (ap suc last.0, last.1) ]
 
 -- One more is read.
-pub front_more : (texts : List ℕ) (lengths : List Lengths) (parts : List ScriptPart) (part : ScriptPart) → AreFront texts lengths parts
+pub front_more : (texts : List ℕ) (lengths : List TextLengths) (parts : List ScriptPart) (part : ScriptPart) → AreFront texts lengths parts
     → ((pair : List ℕ × List ℕ) × IsTextsAt texts lengths (length parts) pair × IsPartOf pair part) → AreFront texts lengths (parts ++ part ∷ [])
 front_more texts lengths parts part front last = record {
   each = λ k other e. elim (get_split parts part k other e) [
@@ -33,17 +33,17 @@ front_more texts lengths parts part front last = record {
 pub seen_count : (parts : List ScriptModule) (k : ℕ) → length parts ≡ k → length (map seen_part parts) ≡ k
 seen_count parts k e = length-map parts seen_part ∙ e
 
-pub front_pushed : (texts : List ℕ) (lengths : List Lengths) (old new : List ScriptModule) (x : ScriptModule) (k : ℕ) (pair : List ℕ × List ℕ) → new ≡ old ++ x ∷ [] → length old ≡ k
+pub front_pushed : (texts : List ℕ) (lengths : List TextLengths) (old new : List ScriptModule) (x : ScriptModule) (k : ℕ) (pair : List ℕ × List ℕ) → new ≡ old ++ x ∷ [] → length old ≡ k
     → AreFront texts lengths (map seen_part old) → IsTextsAt texts lengths k pair → IsPartOf pair (seen_part x) → AreFront texts lengths (map seen_part new)
 front_pushed texts lengths old new x k pair is count front at read = (
     let more = front_more texts lengths (map seen_part old) (seen_part x) front (pair, subst (λ (n : ℕ). IsTextsAt texts lengths n pair) (sym (seen_count old k count)) at, read) in
     let e : map seen_part new ≡ map seen_part old ++ seen_part x ∷ [] = ap (map seen_part) is ∙ map-append seen_part old (x ∷ []) in
     subst (AreFront texts lengths) (sym e) more)
 
-module _ (lengths : List Lengths) (k : ℕ) (each : Lengths) (at : slice_get lengths k ≡ Some each) where
+module _ (lengths : List TextLengths) (k : ℕ) (each : TextLengths) (at : slice_get lengths k ≡ Some each) where
   pub start_more : start_of lengths (k + 1) ≡ start_of lengths k + (each.module + each.certificate)
   start_more = (let e = sum_by_more both_of lengths k each (slice_get_within lengths k each at) in let f = get_or_from_slice_get lengths k each each at in
-      subst (λ (x : Lengths). start_of lengths (k + 1) ≡ start_of lengths k + both_of x) f e)
+      subst (λ (x : TextLengths). start_of lengths (k + 1) ≡ start_of lengths k + both_of x) f e)
 
   -- both texts lie within all of them
   pub start_fits : (texts : List ℕ) → FitTexts texts lengths → start_of lengths k + (each.module + each.certificate) ≤ length texts
@@ -52,7 +52,7 @@ module _ (lengths : List Lengths) (k : ℕ) (each : Lengths) (at : slice_get len
   pub total_more : start_of lengths k + (each.module + each.certificate) ≤ sum_by both_of lengths
   total_more = (let e = start_more in let most = sum_by-take-le both_of lengths (k + 1) in omega (arith, e, most))
 
-module _ (texts : List ℕ) (lengths : List Lengths) (k : ℕ) (d : Lengths) (within : k < length lengths) (rest : List ℕ) (is : rest ≡ drop (start_of lengths k) texts) where
+module _ (texts : List ℕ) (lengths : List TextLengths) (k : ℕ) (d : TextLengths) (within : k < length lengths) (rest : List ℕ) (is : rest ≡ drop (start_of lengths k) texts) where
   -- both texts of the next module are there
   pub next_fits : FitTexts texts lengths → both_of (get_or lengths k d) ≤ length rest
   next_fits fit = (

@@ -10,20 +10,20 @@ use Rattle.life_cert.specs.declared.refusal.CertRefusal.TheVariants as cert
 use Rattle.script_text.specs.Heads.{ScriptPart, seen_part}
 use Rattle.script_text.specs.declared.part.ScriptModule.{ScriptModule}
 use Rattle.std.specs.Prelude.{IfErr, IfOk}
-use Rattle.host_lib.specs.declared.loading.Lengths.{Lengths}
+use Rattle.host_lib.specs.declared.loading.TextLengths.{TextLengths}
 use Rattle.host_lib.specs.declared.loading.LoadRefusal.{LoadRefusal}
 use Rattle.host_lib.specs.declared.loading.LoadRefusal.TheVariants as refusal
 use Rattle.host_lib.specs.Reading.{IsCertRefused, IsModuleRefused}
-use Rattle.host_lib.specs.Texts.{AreFront, IsCertOf, IsFirstRefused, IsPartOf, IsRefusedAt, IsTextRefused, IsTextsAt}
+use Rattle.host_lib.specs.Texts.{AreFront, IsCertOf, IsFirstRefusedText, IsPartOf, IsRefusedAt, IsTextRefused, IsTextsAt}
 
 abbrev err : AsmRefusal → Result Program AsmRefusal
 err e = Err e
 
-abbrev Reads : List ℕ → AsmRefusal → Type 0
-Reads text e = (err e ≡ err asm.NoMemory → ⊥) → IsReadAs text (err e)
+abbrev ReadsAsFault : List ℕ → AsmRefusal → Type 0
+ReadsAsFault text e = (err e ≡ err asm.NoMemory → ⊥) → IsReadAs text (err e)
 
-pub module_fault : (k : ℕ) (text : List ℕ) (e : AsmRefusal) (line : ℕ) (code : _) → e ≡ asm.Fault line code → Reads text e → IsModuleRefused k text (refusal.NoModule k line code)
-module_fault k text e line code is reads = (refl, (subst (Reads text) is reads) (λ bad. cc))
+pub module_fault : (k : ℕ) (text : List ℕ) (e : AsmRefusal) (line : ℕ) (code : _) → e ≡ asm.Fault line code → ReadsAsFault text e → IsModuleRefused k text (refusal.NoModule k line code)
+module_fault k text e line code is reads = (refl, (subst (ReadsAsFault text) is reads) (λ bad. cc))
 
 empty_not : (text : List ℕ) (b : Bool) → b ≡ (length text == 0) → b ≡ false → text ≡ [] → ⊥
 empty_not text b is off e = (let whole : b ≡ true = is ∙ ap (λ (xs : List ℕ). length xs == 0) e in let bad : true ≡ false = sym whole ∙ off in cc)
@@ -47,7 +47,7 @@ cert_refused_at k pair p (refusal.NoModule index line code) reads h = absurd h
 cert_refused_at k pair p (refusal.NotSafe index why) reads h = absurd h
 
 -- The first refusal, where the texts before it are read.
-pub first_refused : (texts : List ℕ) (lengths : List Lengths) (parts : List ScriptPart) (k : ℕ) (pair : List ℕ × List ℕ) (e : LoadRefusal) → length parts ≡ k → AreFront texts lengths parts
+pub first_refused : (texts : List ℕ) (lengths : List TextLengths) (parts : List ScriptPart) (k : ℕ) (pair : List ℕ × List ℕ) (e : LoadRefusal) → length parts ≡ k → AreFront texts lengths parts
     → IsTextsAt texts lengths k pair → IsRefusedAt k pair e → IsTextRefused texts lengths e
 first_refused texts lengths parts k pair (refusal.NoModule index line code) count front at why =
     (parts, count ∙ sym why.0, front, (pair, subst (λ (n : ℕ). IsTextsAt texts lengths n pair) (sym why.0) at, (refl, why.1)))

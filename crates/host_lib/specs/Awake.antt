@@ -6,7 +6,7 @@ use Rattle.filter_chain.specs.Hosting.{Ghosts, Stored}
 use Rattle.filter_chain.specs.Led.{IsAlive}
 use Rattle.filter_chain.specs.Safe.{IsSafe}
 use Rattle.filter_chain.specs.declared.host.Host.{Host}
-use Rattle.host_lib.specs.declared.session.Session.{Session}
+use Rattle.host_lib.specs.declared.session.HostSession.{HostSession}
 use Rattle.host_lib.specs.declared.handle.Handle.{Handle}
 
 -- The host stands for a world, and its chain never faults.
@@ -14,20 +14,20 @@ pub record IsAwakeHost {R : Type 0} {g : Ghosts R Stored} (host : Host MemFiles 
   pub alive : IsAlive mem_device host
   pub safe : IsSafe host
 
-abbrev pub IsAwake : Session → Type 0
+abbrev pub IsAwake : HostSession → Type 0
 IsAwake s = IsAwakeHost s.host
 
 -- There is a session, and it is awake.
-abbrev pub IsHeld : Option Session → Type 0
-IsHeld None = ⊥
-IsHeld (Some s) = IsAwake s
+abbrev pub HoldsSession : Option HostSession → Type 0
+HoldsSession None = ⊥
+HoldsSession (Some s) = IsAwake s
 
-abbrev pub IsReadyAt : Bool → Option Session → Type 0
+abbrev pub IsReadyAt : Bool → Option HostSession → Type 0
 IsReadyAt false None = Unit {0}
 IsReadyAt false (Some s) = ⊥
 IsReadyAt true None = ⊥
 IsReadyAt true (Some s) = IsAwake s
 
 -- The handle holds a session that is awake, and says so; or it holds none, and says so.
-abbrev pub IsReady : Handle → Type 0
-IsReady h = IsReadyAt h.held h.slot.value
+abbrev pub IsReadyHandle : Handle → Type 0
+IsReadyHandle h = IsReadyAt h.held h.slot.value

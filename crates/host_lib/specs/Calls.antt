@@ -10,17 +10,17 @@ use Rattle.filter_chain.specs.Hosting.{close_answer, done_answer, open_answer}
 use Rattle.host_lib.specs.Adding.{TellsPiece}
 use Rattle.host_lib.specs.Codes.{close_code, done_code, number_in, only, open_code, piece_code, run_code, told_of}
 use Rattle.host_lib.specs.Does.{Does, DropsPieces, KeepsPieces, RunsUpTo, pieces_of}
-use Rattle.host_lib.specs.Making.{IsMade}
+use Rattle.host_lib.specs.Making.{IsNewSession}
 use Rattle.host_lib.specs.Output.{TellsOutput}
-use Rattle.host_lib.specs.Texts.{IsRefusedFor}
-use Rattle.host_lib.specs.declared.loading.Lengths.{Lengths}
+use Rattle.host_lib.specs.Texts.{IsChainRefused}
+use Rattle.host_lib.specs.declared.loading.TextLengths.{TextLengths}
 use Rattle.host_lib.specs.declared.loading.LoadRefusal.{LoadRefusal}
 use Rattle.host_lib.specs.declared.pieces.PieceRefusal.{PieceRefusal}
-use Rattle.host_lib.specs.declared.session.Session.{Session}
-use Rattle.host_lib.specs.declared.told.Told.{Told}
+use Rattle.host_lib.specs.declared.session.HostSession.{HostSession}
+use Rattle.host_lib.specs.declared.told.LoadTold.{LoadTold}
 
 -- Where the handle held a session, it holds one, and so the call changed it. Where it held none, it holds none, and that is answered.
-abbrev pub OnSession : Option Session → Option Session → Type 0 → (Session → Session → Type 0) → Type 0
+abbrev pub OnSession : Option HostSession → Option HostSession → Type 0 → (HostSession → HostSession → Type 0) → Type 0
 OnSession None None answered does = answered
 OnSession None (Some t) answered does = ⊥
 OnSession (Some s) None answered does = ⊥
@@ -31,49 +31,49 @@ abbrev pub IsNoSession : ℕ → Type 0
 IsNoSession code = code ≡ 15
 
 -- A connection was opened, which has this number, or this tells why not.
-abbrev pub Opens : ℕ → ℕ → Session → Session → Type 0
-Opens number code s t = ((r : Result ℕ Refusal) × (number ≡ number_in r) × (code ≡ open_code r) × Does s t 0 Open (open_answer r)) × KeepsPieces s t
+abbrev pub DoesOpen : ℕ → ℕ → HostSession → HostSession → Type 0
+DoesOpen number code s t = ((r : Result ℕ Refusal) × (number ≡ number_in r) × (code ≡ open_code r) × Does s t 0 Open (open_answer r)) × KeepsPieces s t
 
 -- This event of a connection was done, or this tells why not. It has no pieces then.
-abbrev pub DoesEvent : Event → ℕ → ℕ → Session → Session → Type 0
+abbrev pub DoesEvent : Event → ℕ → ℕ → HostSession → HostSession → Type 0
 DoesEvent what number code s t = ((r : Option Refusal) × (code ≡ done_code r) × Does s t number what (done_answer r)) × DropsPieces number s t
 
-abbrev pub Begins : ℕ → ℕ → Session → Session → Type 0
-Begins number code s t = DoesEvent Begin number code s t
+abbrev pub DoesBegin : ℕ → ℕ → HostSession → HostSession → Type 0
+DoesBegin number code s t = DoesEvent Begin number code s t
 
 -- The pieces that the connection had are brought.
-abbrev pub Brings : ℕ → ℕ → Session → Session → Type 0
-Brings number code s t = DoesEvent (Bring (pieces_of s number)) number code s t
+abbrev pub DoesBring : ℕ → ℕ → HostSession → HostSession → Type 0
+DoesBring number code s t = DoesEvent (Bring (pieces_of s number)) number code s t
 
-abbrev pub Ends : ℕ → ℕ → Session → Session → Type 0
-Ends number code s t = DoesEvent End number code s t
+abbrev pub DoesEnd : ℕ → ℕ → HostSession → HostSession → Type 0
+DoesEnd number code s t = DoesEvent End number code s t
 
 -- The connection is closed, or this tells why not. It has no pieces then.
-abbrev pub Closes : ℕ → ℕ → Session → Session → Type 0
-Closes number code s t = ((r : Result (Vec LabelsRun) Refusal) × (code ≡ close_code r) × Does s t number Close (close_answer r)) × DropsPieces number s t
+abbrev pub DoesClose : ℕ → ℕ → HostSession → HostSession → Type 0
+DoesClose number code s t = ((r : Result (Vec LabelsRun) Refusal) × (code ≡ close_code r) × Does s t number Close (close_answer r)) × DropsPieces number s t
 
 -- A piece is added, or this tells why not. Of the model nothing is changed.
-abbrev pub Adds : ℕ → ℕ → List ℕ → ℕ → Session → Session → Type 0
-Adds number kind bytes code s t = ((r : Result (Unit {0}) PieceRefusal) × (code ≡ piece_code r) × TellsPiece number kind bytes s t r) × (t.host ≡ s.host)
+abbrev pub DoesPiece : ℕ → ℕ → List ℕ → ℕ → HostSession → HostSession → Type 0
+DoesPiece number kind bytes code s t = ((r : Result (Unit {0}) PieceRefusal) × (code ≡ piece_code r) × TellsPiece number kind bytes s t r) × (t.host ≡ s.host)
 
 -- Steps were made, at most so many; this tells what the last of them answered.
-abbrev pub Runs : ℕ → ℕ → ℕ → Session → Session → Type 0
-Runs number most code s t = ((r : Result Stepped Refusal) × (code ≡ run_code r) × RunsUpTo most s t number r) × KeepsPieces s t
+abbrev pub DoesRun : ℕ → ℕ → ℕ → HostSession → HostSession → Type 0
+DoesRun number most code s t = ((r : Result Stepped Refusal) × (code ≡ run_code r) × RunsUpTo most s t number r) × KeepsPieces s t
 
 -- So long is the output, and where the buffer has room it is taken.
-abbrev pub Tells : ℕ → List ℕ → List ℕ → ℕ → Session → Session → Type 0
-Tells number old new n s t = TellsOutput number old new n s t × KeepsPieces s t
+abbrev pub DoesOutput : ℕ → List ℕ → List ℕ → ℕ → HostSession → HostSession → Type 0
+DoesOutput number old new n s t = TellsOutput number old new n s t × KeepsPieces s t
 
 abbrev pub TellsNothing : List ℕ → List ℕ → ℕ → Type 0
 TellsNothing old new n = (n ≡ 0) × (new ≡ old)
 
 -- The handle held none. A session is made of the texts; or it holds none, and is told why.
-abbrev pub MakesAnew : List ℕ → List Lengths → ℕ → Option Session → Told → Bool → Type 0
-MakesAnew texts lengths budget (Some s) told true = IsMade texts lengths budget s × (told ≡ only 0)
-MakesAnew texts lengths budget None told false = (e : LoadRefusal) × IsRefusedFor texts lengths e × (told ≡ told_of e)
+abbrev pub MakesAnew : List ℕ → List TextLengths → ℕ → Option HostSession → LoadTold → Bool → Type 0
+MakesAnew texts lengths budget (Some s) told true = IsNewSession texts lengths budget s × (told ≡ only 0)
+MakesAnew texts lengths budget None told false = (e : LoadRefusal) × IsChainRefused texts lengths e × (told ≡ told_of e)
 MakesAnew texts lengths budget new told made = ⊥
 
 -- A handle that holds a session already holds it afterwards.
-abbrev pub Makes : List ℕ → List Lengths → ℕ → Option Session → Option Session → Told → Bool → Type 0
-Makes texts lengths budget None new told made = MakesAnew texts lengths budget new told made
-Makes texts lengths budget (Some s) new told made = (new ≡ Some s) × (made ≡ false) × (told ≡ only 6)
+abbrev pub DoesNew : List ℕ → List TextLengths → ℕ → Option HostSession → Option HostSession → LoadTold → Bool → Type 0
+DoesNew texts lengths budget None new told made = MakesAnew texts lengths budget new told made
+DoesNew texts lengths budget (Some s) new told made = (new ≡ Some s) × (made ≡ false) × (told ≡ only 6)

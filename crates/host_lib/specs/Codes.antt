@@ -19,7 +19,7 @@ use Rattle.host_lib.specs.declared.pieces.PieceRefusal.{PieceRefusal}
 use Rattle.host_lib.specs.declared.pieces.PieceRefusal.TheVariants as piece
 use Rattle.host_lib.specs.declared.loading.LoadRefusal.{LoadRefusal}
 use Rattle.host_lib.specs.declared.loading.LoadRefusal.TheVariants as load
-use Rattle.host_lib.specs.declared.told.Told.{Told}
+use Rattle.host_lib.specs.declared.told.LoadTold.{LoadTold}
 
 abbrev pub cause_code : Cause → ℕ
 cause_code cause.NoMemory = 5
@@ -56,7 +56,7 @@ abbrev pub run_code : Result Stepped Refusal → ℕ
 run_code (Ok (stepped.CallEnded status.Success)) = 0
 run_code (Ok (stepped.CallEnded status.Fail)) = 1
 run_code (Ok stepped.Went) = 2
-run_code (Ok (stepped.Fault k m pc)) = 18
+run_code (Ok (stepped.Fault k m pc)) = 17
 run_code (Err r) = refusal_code r
 
 abbrev pub piece_code : Result (Unit {0}) PieceRefusal → ℕ
@@ -91,11 +91,11 @@ rule_code rule.Exit = 14
 rule_code rule.Request = 15
 
 -- what is told alone
-abbrev pub only : ℕ → Told
+abbrev pub only : ℕ → LoadTold
 only what = record { what = what; code = 0; «module» = 0; place = 0 }
 
 -- what is told of why a chain is not taken
-abbrev pub told_of : LoadRefusal → Told
+abbrev pub told_of : LoadRefusal → LoadTold
 told_of load.NoChain = only 1
 told_of load.NoMemory = only 2
 told_of (load.NoModule index line code) = record { what = 3; code = code_number code; «module» = index; place = line }

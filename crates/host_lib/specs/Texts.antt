@@ -10,29 +10,29 @@ use Rattle.life_check.specs.Seen.{seen_cert}
 use Rattle.life_check.specs.declared.cert.Cert.{Cert}
 use Rattle.script_text.specs.Heads.{ScriptPart}
 use Rattle.script_text.specs.Parts.{codes_of, refused_in}
-use Rattle.host_lib.specs.declared.loading.Lengths.{Lengths}
+use Rattle.host_lib.specs.declared.loading.TextLengths.{TextLengths}
 use Rattle.host_lib.specs.declared.loading.LoadRefusal.{LoadRefusal}
 use Rattle.host_lib.specs.declared.loading.LoadRefusal.TheVariants as refusal
 
 -- how long both texts of a module are
-abbrev pub both_of : Lengths → ℕ
+abbrev pub both_of : TextLengths → ℕ
 both_of each = each.module + each.certificate
 
 -- The lengths are together that of the texts.
-abbrev pub FitTexts : List ℕ → List Lengths → Type 0
+abbrev pub FitTexts : List ℕ → List TextLengths → Type 0
 FitTexts texts lengths = sum_by both_of lengths ≡ length texts
 
 -- where the texts of the module at this place begin
-abbrev pub start_of : List Lengths → ℕ → ℕ
+abbrev pub start_of : List TextLengths → ℕ → ℕ
 start_of lengths k = sum_by both_of (take k lengths)
 
 -- the text of a module, and that of its certificate
-abbrev pub texts_from : List ℕ → Lengths → List ℕ × List ℕ
+abbrev pub texts_from : List ℕ → TextLengths → List ℕ × List ℕ
 texts_from texts each = (take each.module texts, take each.certificate (drop each.module texts))
 
 -- These are the texts of the module at this place.
-abbrev pub IsTextsAt : List ℕ → List Lengths → ℕ → List ℕ × List ℕ → Type 0
-IsTextsAt texts lengths k pair = (each : Lengths) × (slice_get lengths k ≡ Some each) × (pair ≡ texts_from (drop (start_of lengths k) texts) each)
+abbrev pub IsTextsAt : List ℕ → List TextLengths → ℕ → List ℕ × List ℕ → Type 0
+IsTextsAt texts lengths k pair = (each : TextLengths) × (slice_get lengths k ≡ Some each) × (pair ≡ texts_from (drop (start_of lengths k) texts) each)
 
 -- a certificate's text is empty where there is none
 abbrev pub IsCertOf : List ℕ → Option Cert → Type 0
@@ -44,16 +44,16 @@ abbrev pub IsPartOf : List ℕ × List ℕ → ScriptPart → Type 0
 IsPartOf pair part = IsReadAs pair.0 (Ok part.code) × IsCertOf pair.1 part.cert
 
 -- As many texts as there are of these are of these modules and certificates, from the first on.
-pub record AreFront (texts : List ℕ) (lengths : List Lengths) (parts : List ScriptPart) : Type 0 where
+pub record AreFront (texts : List ℕ) (lengths : List TextLengths) (parts : List ScriptPart) : Type 0 where
   pub each : (k : ℕ) (part : ScriptPart) → slice_get parts k ≡ Some part → (pair : List ℕ × List ℕ) × IsTextsAt texts lengths k pair × IsPartOf pair part
 
 -- All of them are.
-pub record AreParts (texts : List ℕ) (lengths : List Lengths) (parts : List ScriptPart) : Type 0 where
+pub record AreTextParts (texts : List ℕ) (lengths : List TextLengths) (parts : List ScriptPart) : Type 0 where
   pub count : length parts ≡ length lengths
   pub front : AreFront texts lengths parts
 
 -- The texts make a chain of 1 to 16 modules.
-abbrev pub IsNoChain : List ℕ → List Lengths → Type 0
+abbrev pub IsNoChain : List ℕ → List TextLengths → Type 0
 IsNoChain texts lengths = (length lengths ≡ 0) ⊎ ((16 < length lengths) ⊎ ¬ (FitTexts texts lengths))
 
 -- Why the texts at this place are refused: the first fault of the module's, or else of the certificate's; or there is no memory.
@@ -64,24 +64,24 @@ IsRefusedAt k pair refusal.NoMemory = Unit {0}
 IsRefusedAt k pair e = ⊥
 
 -- The texts before this place are read, and those at it are refused.
-abbrev pub IsFirstRefused : List ℕ → List Lengths → ℕ → LoadRefusal → Type 0
-IsFirstRefused texts lengths k e =
+abbrev pub IsFirstRefusedText : List ℕ → List TextLengths → ℕ → LoadRefusal → Type 0
+IsFirstRefusedText texts lengths k e =
     (parts : List ScriptPart) × (length parts ≡ k) × AreFront texts lengths parts × ((pair : List ℕ × List ℕ) × IsTextsAt texts lengths k pair × IsRefusedAt k pair e)
 
 -- Why texts whose lengths fit are not all read.
-abbrev pub IsTextRefused : List ℕ → List Lengths → LoadRefusal → Type 0
-IsTextRefused texts lengths (refusal.NoModule index line code) = IsFirstRefused texts lengths index (refusal.NoModule index line code)
-IsTextRefused texts lengths (refusal.NoCert index line code) = IsFirstRefused texts lengths index (refusal.NoCert index line code)
+abbrev pub IsTextRefused : List ℕ → List TextLengths → LoadRefusal → Type 0
+IsTextRefused texts lengths (refusal.NoModule index line code) = IsFirstRefusedText texts lengths index (refusal.NoModule index line code)
+IsTextRefused texts lengths (refusal.NoCert index line code) = IsFirstRefusedText texts lengths index (refusal.NoCert index line code)
 IsTextRefused texts lengths refusal.NoMemory = Unit {0}
 IsTextRefused texts lengths e = ⊥
 
 -- Why no chain is made: they are no texts of one; or the first text that is refused; or, where all are read, the first module that is, as the command
 -- `check` refuses it.
-abbrev pub IsRefusedFor : List ℕ → List Lengths → LoadRefusal → Type 0
-IsRefusedFor texts lengths refusal.NoChain = IsNoChain texts lengths
-IsRefusedFor texts lengths (refusal.NotSafe index why) = (parts : List ScriptPart) × AreParts texts lengths parts × (refused_in parts ≡ Some (index, why))
-IsRefusedFor texts lengths e = IsTextRefused texts lengths e
+abbrev pub IsChainRefused : List ℕ → List TextLengths → LoadRefusal → Type 0
+IsChainRefused texts lengths refusal.NoChain = IsNoChain texts lengths
+IsChainRefused texts lengths (refusal.NotSafe index why) = (parts : List ScriptPart) × AreTextParts texts lengths parts × (refused_in parts ≡ Some (index, why))
+IsChainRefused texts lengths e = IsTextRefused texts lengths e
 
 -- The chain is that of the texts, and no module of it is refused.
-abbrev pub IsChainOf : List ℕ → List Lengths → List Program → Type 0
-IsChainOf texts lengths chain = (parts : List ScriptPart) × AreParts texts lengths parts × (chain ≡ codes_of parts) × (refused_in parts ≡ None)
+abbrev pub IsChainOf : List ℕ → List TextLengths → List Program → Type 0
+IsChainOf texts lengths chain = (parts : List ScriptPart) × AreTextParts texts lengths parts × (chain ≡ codes_of parts) × (refused_in parts ≡ None)

@@ -1,7 +1,9 @@
 //! The numbers that calls answer: the `CIDAWRU_` numbers of `cidawru.h`.
 
 ghost use Rattle.std.specs.Prelude.{◌≡◌, ◌≢◌};
-ghost use Rattle.filter_chain.specs.Safe.{GoesWell};
+ghost use Rattle.run_model.specs.Worlds.{Refused};
+ghost use Rattle.filter_chain.specs.Hosting.{close_answer, done_answer, step_answer};
+ghost use Rattle.filter_chain.specs.Safe.{GoesWell, IsUnfaulted};
 ghost use Rattle.module_run.specs.Happened.{refusal_of};
 ghost use Rattle.host_lib.specs.Codes.{cause_code, close_code, done_code, piece_code, refusal_code, run_code};
 
@@ -43,17 +45,15 @@ pub(crate) const NO_KIND: u32 = 14;
 pub(crate) const NO_SESSION: u32 = 15;
 /// Of a file; no piece is one.
 pub(crate) const NO_FILE: u32 = 16;
-/// The connection is broken by a fault. None comes, so this does not either.
-pub(crate) const BROKE_FAULT: u32 = 17;
-/// An instruction had a fault, which no call of a checked chain answers.
-pub(crate) const FAULT: u32 = 18;
+/// An instruction had a fault, now or before, which no call of a checked chain answers.
+pub(crate) const FAULT: u32 = 17;
 
 fn broken(why: Cause) -> u32
     ensures code { result ≡ cause_code why }
-    ensures faultless { result ≢ FAULT }
+    ensures faultless { why ≢ Cause.Faulted → result ≢ FAULT }
 {
     match why {
-        Cause::Faulted => BROKE_FAULT,
+        Cause::Faulted => FAULT,
         Cause::NoMemory => BROKE_MEMORY,
         Cause::NamesSpent => BROKE_NAMES,
         Cause::OutOfSteps => BROKE_BUDGET,
@@ -63,7 +63,7 @@ fn broken(why: Cause) -> u32
 /// The number of a refusal.
 pub(crate) fn refused(refusal: Refusal) -> u32
     ensures code { result ≡ refusal_code refusal }
-    ensures faultless { result ≢ FAULT }
+    ensures faultless { IsUnfaulted (Refused refusal) → result ≢ FAULT }
 {
     match refusal {
         Refusal::NoSuchConn => NO_CONNECTION,
@@ -83,7 +83,7 @@ pub(crate) fn refused(refusal: Refusal) -> u32
 /// The number of what an event answers that tells nothing else.
 pub(crate) fn done(answer: Result<(), Refusal>) -> u32
     ensures code { result ≡ done_code (refusal_of answer) }
-    ensures faultless { result ≢ FAULT }
+    ensures faultless { IsUnfaulted (done_answer (refusal_of answer)) → result ≢ FAULT }
 {
     match answer {
         Ok(()) => DONE,
@@ -94,7 +94,7 @@ pub(crate) fn done(answer: Result<(), Refusal>) -> u32
 /// The number of what a close answers.
 pub(crate) fn closed(answer: Result<Vec<LabelsRun>, Refusal>) -> u32
     ensures code { result ≡ close_code answer }
-    ensures faultless { result ≢ FAULT }
+    ensures faultless { IsUnfaulted (close_answer answer) → result ≢ FAULT }
 {
     match answer {
         Ok(_labels) => DONE,
@@ -105,7 +105,7 @@ pub(crate) fn closed(answer: Result<Vec<LabelsRun>, Refusal>) -> u32
 /// The number of what steps answer.
 pub(crate) fn stepped(answer: Result<Stepped, Refusal>) -> u32
     ensures code { result ≡ run_code answer }
-    ensures faultless { GoesWell answer → result ≢ FAULT }
+    ensures faultless { GoesWell answer → IsUnfaulted (step_answer answer) → result ≢ FAULT }
 {
     match answer {
         Ok(Stepped::Went) => GOES_ON,

@@ -1,15 +1,15 @@
 //! The proved host of filters for a server that is written in C: what `cidawru.h` declares.
 //!
-//! A handle is ready (`IsReady`) where it holds a session that is awake (`IsAwake`), or none. What C owes is that a handle which it gives to a
+//! A handle is ready (`IsReadyHandle`) where it holds a session that is awake (`IsAwake`), or none. What C owes is that a handle which it gives to a
 //! call is one of zeros, or as a call left it; each call leaves one that is ready. Of a handle that holds none each call answers `NO_SESSION`
 //! and changes nothing (`OnSession`).
 #![tactic(auto)]
 
 ghost use Rattle.std.specs.Prelude.{◌≡◌, ◌≢◌, IfErr, IfOk, None};
-ghost use Rattle.host_lib.specs.Awake.{IsAwake, IsReady};
-ghost use Rattle.host_lib.specs.Making.{IsMade};
-ghost use Rattle.host_lib.specs.Texts.{IsRefusedFor};
-ghost use Rattle.host_lib.specs.Calls.{Adds, Begins, Brings, Closes, Ends, IsNoSession, Makes, OnSession, Opens, Runs, Tells, TellsNothing};
+ghost use Rattle.host_lib.specs.Awake.{IsAwake, IsReadyHandle};
+ghost use Rattle.host_lib.specs.Making.{IsNewSession};
+ghost use Rattle.host_lib.specs.Texts.{IsChainRefused};
+ghost use Rattle.host_lib.specs.Calls.{DoesPiece, DoesBegin, DoesBring, DoesClose, DoesEnd, IsNoSession, DoesNew, OnSession, DoesOpen, DoesRun, DoesOutput, TellsNothing};
 
 mod answers;
 mod handle;
@@ -21,23 +21,23 @@ mod told;
 
 use answers::{DONE, FAULT, NO_SESSION, added, closed, done, refused, stepped};
 use handle::Handle;
-use loading::{Lengths, LoadRefusal};
-use session::Session;
+use loading::{LoadRefusal, TextLengths};
+use session::HostSession;
 use std::alloc::Global;
-use told::Told;
+use told::LoadTold;
 
 /// A session of the chain of these texts, in a box.
 fn made(
     alloc: Global,
     texts: &[u8],
-    lengths: &[Lengths],
+    lengths: &[TextLengths],
     budget: u64,
-) -> Result<Box<Session>, LoadRefusal>
-    ensures made { IfOk result (λ b. IsMade texts.now lengths.now budget b.value) }
-    ensures refused { IfErr result (IsRefusedFor texts.now lengths.now) }
+) -> Result<Box<HostSession>, LoadRefusal>
+    ensures made { IfOk result (λ b. IsNewSession texts.now lengths.now budget b.value) }
+    ensures refused { IfErr result (IsChainRefused texts.now lengths.now) }
     ensures awake { IfOk result (λ b. IsAwake b.value) }
 {
-    let session = Session::new(alloc, texts, lengths, budget)?;
+    let session = HostSession::new(alloc, texts, lengths, budget)?;
     match Box::new(alloc, session) {
         Ok(session) => Ok(session),
         Err(_) => Err(LoadRefusal::NoMemory),
@@ -50,26 +50,26 @@ pub extern "C" fn cidawru_new(
     alloc: Global,
     handle: &mut Handle,
     texts: &[u8],
-    lengths: &[Lengths],
+    lengths: &[TextLengths],
     budget: u64,
-    told: &mut Told,
+    told: &mut LoadTold,
 ) -> bool
-    requires { IsReady handle.old }
-    ensures ready { IsReady handle.new }
-    ensures makes { Makes texts.now lengths.now budget handle.old.slot.value handle.new.slot.value told.new result }
+    requires { IsReadyHandle handle.old }
+    ensures ready { IsReadyHandle handle.new }
+    ensures makes { DoesNew texts.now lengths.now budget handle.old.slot.value handle.new.slot.value told.new result }
 {
     if handle.held {
-        *told = Told::held();
+        *told = LoadTold::held();
         return false;
     }
     match made(alloc, texts, lengths, budget) {
         Ok(session) => {
             handle.put(session);
-            *told = Told::taken();
+            *told = LoadTold::taken();
             true
         }
         Err(why) => {
-            *told = Told::why(why);
+            *told = LoadTold::why(why);
             false
         }
     }
@@ -78,8 +78,8 @@ pub extern "C" fn cidawru_new(
 /// Ends the session, with all that it holds.
 #[unsafe(no_mangle)]
 pub extern "C" fn cidawru_free(alloc: Global, handle: &mut Handle)
-    requires { IsReady handle.old }
-    ensures ready { IsReady handle.new }
+    requires { IsReadyHandle handle.old }
+    ensures ready { IsReadyHandle handle.new }
     ensures freed { handle.new.slot.value ≡ None }
 {
     let _ = handle.take(alloc);
@@ -88,9 +88,9 @@ pub extern "C" fn cidawru_free(alloc: Global, handle: &mut Handle)
 /// Opens a connection, and tells its number; 0 where it is refused.
 #[unsafe(no_mangle)]
 pub extern "C" fn cidawru_open(alloc: Global, handle: &mut Handle, number: &mut u64) -> u32
-    requires { IsReady handle.old }
-    ensures ready { IsReady handle.new }
-    ensures opens { OnSession handle.old.slot.value handle.new.slot.value ((number.new ≡ 0) × IsNoSession result) (Opens number.new result) }
+    requires { IsReadyHandle handle.old }
+    ensures ready { IsReadyHandle handle.new }
+    ensures opens { OnSession handle.old.slot.value handle.new.slot.value ((number.new ≡ 0) × IsNoSession result) (DoesOpen number.new result) }
     ensures faultless { result ≢ FAULT }
 {
     *number = 0;
@@ -111,9 +111,9 @@ pub extern "C" fn cidawru_open(alloc: Global, handle: &mut Handle, number: &mut 
 /// A request begins, without pieces.
 #[unsafe(no_mangle)]
 pub extern "C" fn cidawru_begin(alloc: Global, handle: &mut Handle, number: u64) -> u32
-    requires { IsReady handle.old }
-    ensures ready { IsReady handle.new }
-    ensures begins { OnSession handle.old.slot.value handle.new.slot.value (IsNoSession result) (Begins number result) }
+    requires { IsReadyHandle handle.old }
+    ensures ready { IsReadyHandle handle.new }
+    ensures begins { OnSession handle.old.slot.value handle.new.slot.value (IsNoSession result) (DoesBegin number result) }
     ensures faultless { result ≢ FAULT }
 {
     let Some(mut session) = handle.take(alloc) else {
@@ -133,9 +133,9 @@ pub extern "C" fn cidawru_piece(
     kind: u32,
     bytes: &[u8],
 ) -> u32
-    requires { IsReady handle.old }
-    ensures ready { IsReady handle.new }
-    ensures adds { OnSession handle.old.slot.value handle.new.slot.value (IsNoSession result) (Adds number kind bytes.now result) }
+    requires { IsReadyHandle handle.old }
+    ensures ready { IsReadyHandle handle.new }
+    ensures adds { OnSession handle.old.slot.value handle.new.slot.value (IsNoSession result) (DoesPiece number kind bytes.now result) }
     ensures faultless { result ≢ FAULT }
 {
     let Some(mut session) = handle.take(alloc) else {
@@ -149,9 +149,9 @@ pub extern "C" fn cidawru_piece(
 /// Brings the pieces of the connection as one brigade.
 #[unsafe(no_mangle)]
 pub extern "C" fn cidawru_bring(alloc: Global, handle: &mut Handle, number: u64) -> u32
-    requires { IsReady handle.old }
-    ensures ready { IsReady handle.new }
-    ensures brings { OnSession handle.old.slot.value handle.new.slot.value (IsNoSession result) (Brings number result) }
+    requires { IsReadyHandle handle.old }
+    ensures ready { IsReadyHandle handle.new }
+    ensures brings { OnSession handle.old.slot.value handle.new.slot.value (IsNoSession result) (DoesBring number result) }
     ensures faultless { result ≢ FAULT }
 {
     let Some(mut session) = handle.take(alloc) else {
@@ -165,9 +165,9 @@ pub extern "C" fn cidawru_bring(alloc: Global, handle: &mut Handle, number: u64)
 /// Runs what was begun, by so many steps at most.
 #[unsafe(no_mangle)]
 pub extern "C" fn cidawru_run(alloc: Global, handle: &mut Handle, number: u64, most: u64) -> u32
-    requires { IsReady handle.old }
-    ensures ready { IsReady handle.new }
-    ensures runs { OnSession handle.old.slot.value handle.new.slot.value (IsNoSession result) (Runs number most result) }
+    requires { IsReadyHandle handle.old }
+    ensures ready { IsReadyHandle handle.new }
+    ensures runs { OnSession handle.old.slot.value handle.new.slot.value (IsNoSession result) (DoesRun number most result) }
     ensures faultless { result ≢ FAULT }
 {
     let Some(mut session) = handle.take(alloc) else {
@@ -186,9 +186,9 @@ pub extern "C" fn cidawru_output(
     number: u64,
     buffer: &mut [u8],
 ) -> usize
-    requires { IsReady handle.old }
-    ensures ready { IsReady handle.new }
-    ensures tells { OnSession handle.old.slot.value handle.new.slot.value (TellsNothing buffer.old buffer.new result) (Tells number buffer.old buffer.new result) }
+    requires { IsReadyHandle handle.old }
+    ensures ready { IsReadyHandle handle.new }
+    ensures tells { OnSession handle.old.slot.value handle.new.slot.value (TellsNothing buffer.old buffer.new result) (DoesOutput number buffer.old buffer.new result) }
 {
     let Some(mut session) = handle.take(alloc) else {
         return 0;
@@ -201,9 +201,9 @@ pub extern "C" fn cidawru_output(
 /// The request ends.
 #[unsafe(no_mangle)]
 pub extern "C" fn cidawru_end(alloc: Global, handle: &mut Handle, number: u64) -> u32
-    requires { IsReady handle.old }
-    ensures ready { IsReady handle.new }
-    ensures ends { OnSession handle.old.slot.value handle.new.slot.value (IsNoSession result) (Ends number result) }
+    requires { IsReadyHandle handle.old }
+    ensures ready { IsReadyHandle handle.new }
+    ensures ends { OnSession handle.old.slot.value handle.new.slot.value (IsNoSession result) (DoesEnd number result) }
     ensures faultless { result ≢ FAULT }
 {
     let Some(mut session) = handle.take(alloc) else {
@@ -217,9 +217,9 @@ pub extern "C" fn cidawru_end(alloc: Global, handle: &mut Handle, number: u64) -
 /// The connection is closed, in any state.
 #[unsafe(no_mangle)]
 pub extern "C" fn cidawru_close(alloc: Global, handle: &mut Handle, number: u64) -> u32
-    requires { IsReady handle.old }
-    ensures ready { IsReady handle.new }
-    ensures closes { OnSession handle.old.slot.value handle.new.slot.value (IsNoSession result) (Closes number result) }
+    requires { IsReadyHandle handle.old }
+    ensures ready { IsReadyHandle handle.new }
+    ensures closes { OnSession handle.old.slot.value handle.new.slot.value (IsNoSession result) (DoesClose number result) }
     ensures faultless { result ≢ FAULT }
 {
     let Some(mut session) = handle.take(alloc) else {

@@ -4,7 +4,7 @@ ghost use Rattle.std.specs.Prelude.{◌≡◌, ◌+◌, ◌≤◌, ◌↔◌, If
 ghost use Rattle.life_check.specs.ChainTheorem.{ChainNeverFaults};
 ghost use Rattle.module_lang.specs.FirstFault.{IsReadAs};
 ghost use Rattle.script_text.specs.Heads.{seen_part};
-ghost use Rattle.host_lib.specs.Texts.{AreParts, FitTexts, IsCertOf, IsChainOf, IsPartOf, IsRefusedAt, IsRefusedFor, IsTextRefused, texts_from};
+ghost use Rattle.host_lib.specs.Texts.{AreTextParts, FitTexts, IsCertOf, IsChainOf, IsPartOf, IsRefusedAt, IsChainRefused, IsTextRefused, texts_from};
 ghost use Rattle.host_lib.specs.Reading.{IsCertRefused, IsModuleRefused};
 
 use life_cert::{CertCode, CertRefusal, read_cert};
@@ -20,7 +20,7 @@ const MOST: usize = 16;
 /// How long the texts of a module and of its certificate are.
 #[repr(C)]
 #[derive(Clone, Copy)]
-pub struct Lengths {
+pub struct TextLengths {
     /// The module's.
     pub module: usize,
     /// The certificate's; 0 where one is to be made.
@@ -54,7 +54,7 @@ pub enum LoadRefusal {
 }
 
 /// Whether the lengths are together that of the texts.
-fn fit(texts: &[u8], lengths: &[Lengths]) -> bool
+fn fit(texts: &[u8], lengths: &[TextLengths]) -> bool
     ensures { IsTrue result ↔ FitTexts texts.now lengths.now }
 {
     let mut rest = texts.len();
@@ -126,7 +126,7 @@ fn next_part(
     alloc: Global,
     index: usize,
     rest: &[u8],
-    each: Lengths,
+    each: TextLengths,
 ) -> Result<ScriptModule, LoadRefusal>
     requires { each.module + each.certificate ≤ length rest.now }
     ensures read { IfOk result (λ x. IsPartOf (texts_from rest.now each) (seen_part x)) }
@@ -138,7 +138,7 @@ fn next_part(
 }
 
 /// What is left of the texts behind a module and its certificate.
-fn behind(rest: &[u8], each: Lengths) -> &[u8]
+fn behind(rest: &[u8], each: TextLengths) -> &[u8]
     requires { each.module + each.certificate ≤ length rest.now }
     ensures { result.now ≡ drop (each.module + each.certificate) rest.now }
 {
@@ -151,10 +151,10 @@ fn behind(rest: &[u8], each: Lengths) -> &[u8]
 pub(crate) fn parts(
     alloc: Global,
     texts: &[u8],
-    lengths: &[Lengths],
+    lengths: &[TextLengths],
 ) -> Result<Vec<ScriptModule>, LoadRefusal>
     requires { FitTexts texts.now lengths.now }
-    ensures read { IfOk result (λ v. AreParts texts.now lengths.now (map seen_part v.items)) }
+    ensures read { IfOk result (λ v. AreTextParts texts.now lengths.now (map seen_part v.items)) }
     ensures refused { IfErr result (IsTextRefused texts.now lengths.now) }
 {
     let mut parts = Vec::new(alloc);
@@ -178,10 +178,10 @@ pub(crate) fn parts(
 pub(crate) fn chain(
     alloc: Global,
     texts: &[u8],
-    lengths: &[Lengths],
+    lengths: &[TextLengths],
 ) -> Result<CheckedChain, LoadRefusal>
     ensures chain { IfOk result (IsChainOf texts.now lengths.now) }
-    ensures refused { IfErr result (IsRefusedFor texts.now lengths.now) }
+    ensures refused { IfErr result (IsChainRefused texts.now lengths.now) }
     ensures safe { IfOk result (λ c. ChainNeverFaults c) }
 {
     if lengths.is_empty() || lengths.len() > MOST || !fit(texts, lengths) {

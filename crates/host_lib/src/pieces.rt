@@ -1,12 +1,13 @@
 //! The pieces that connections are brought next.
 
-ghost use Rattle.std.specs.Prelude.{◌≡◌, ℕ, ◌∷◌, ◌++◌, [], IfErr, IfOk, OnErr, OnOk};
+ghost use Rattle.std.specs.Prelude.{◌≡◌, ◌≢◌, ℕ, ◌∷◌, ◌++◌, [], IfErr, IfOk, OnErr, OnOk};
 ghost use Rattle.run_model.specs.Indexed.{upd};
 ghost use Rattle.host_lib.specs.Kinds.{IsPieceOf, IsNoPiece};
 
 use filter_chain::{Piece, Seq};
 use std::alloc::Global;
 use std::collections::HashMap;
+use std::mem;
 
 /// Why a piece is not added.
 #[derive(Clone, Copy)]
@@ -46,10 +47,13 @@ pub(crate) fn piece(alloc: Global, kind: u32, bytes: &[u8]) -> Result<Piece, Pie
     }
 }
 
-/// The pieces that connections are brought next, by their numbers.
+/// The pieces that connections are brought next, by their numbers. Those of the connection `last`, which was given a piece last, lie apart, so
+/// that a connection whose calls come one after another wants no look into the map.
 #[derive(Drop)]
 pub struct Pieces {
     pub(crate) alloc: Global,
+    pub(crate) last: u64,
+    pub(crate) apart: Seq<Piece>,
     pub(crate) by_number: HashMap<u64, Seq<Piece>>,
 }
 
@@ -63,6 +67,8 @@ impl Pieces {
     {
         Pieces {
             alloc,
+            last: 0,
+            apart: Seq::new(alloc),
             by_number: HashMap::new(alloc),
         }
     }
@@ -72,22 +78,37 @@ impl Pieces {
         ensures value { result ≡ pieces_at self.old number }
         ensures rest { (n : ℕ) → pieces_at self.new n ≡ upd (pieces_at self.old) number [] n }
     {
+        if number == self.last {
+            return mem::replace(&mut self.apart, Seq::new(self.alloc));
+        }
         match self.by_number.remove(&number) {
             Some(pieces) => pieces,
             None => Seq::new(self.alloc),
         }
     }
 
-    /// Gives a connection these pieces in place of those that it has. Without memory it keeps those.
-    fn put(&mut self, number: u64, pieces: Seq<Piece>) -> Result<(), PieceRefusal>
-        ensures put { OnOk result ((n : ℕ) → pieces_at self.new n ≡ upd (pieces_at self.old) number pieces n) }
-        ensures kept { OnErr result ((n : ℕ) → pieces_at self.new n ≡ pieces_at self.old n) }
+    /// Has the pieces of another connection lie apart. Without memory nothing is changed.
+    fn turn_to(&mut self, number: u64) -> Result<(), PieceRefusal>
+        requires other { number ≢ self.old.last }
+        ensures kept { (n : ℕ) → pieces_at self.new n ≡ pieces_at self.old n }
+        ensures turned { OnOk result (self.new.last ≡ number) }
         ensures refused { IfErr result (λ e. e ≡ PieceRefusal.NoMemory) }
     {
-        match self.by_number.insert(number, pieces) {
-            Ok(_) => Ok(()),
-            Err(_) => Err(PieceRefusal::NoMemory),
+        let Ok(()) = self.by_number.reserve(1) else {
+            return Err(PieceRefusal::NoMemory);
+        };
+        let next = match self.by_number.remove(&number) {
+            Some(pieces) => pieces,
+            None => Seq::new(self.alloc),
+        };
+        let before = mem::replace(&mut self.apart, next);
+        let last = mem::replace(&mut self.last, number);
+        if before.is_empty() {
+            let _ = self.by_number.remove(&last);
+        } else {
+            let _ = self.by_number.insert(last, before);
         }
+        Ok(())
     }
 
     /// Adds a piece behind those of a connection. Without memory it has none then.
@@ -96,10 +117,21 @@ impl Pieces {
         ensures dropped { OnErr result ((n : ℕ) → pieces_at self.new n ≡ upd (pieces_at self.old) number [] n) }
         ensures refused { IfErr result (λ e. e ≡ PieceRefusal.NoMemory) }
     {
-        let mut pieces = self.take(number);
-        match pieces.push(piece) {
-            Ok(()) => self.put(number, pieces),
-            Err(_) => Err(PieceRefusal::NoMemory),
+        if number != self.last {
+            match self.turn_to(number) {
+                Ok(()) => {}
+                Err(refusal) => {
+                    let _ = self.take(number);
+                    return Err(refusal);
+                }
+            }
+        }
+        match self.apart.push(piece) {
+            Ok(()) => Ok(()),
+            Err(_) => {
+                let _ = self.take(number);
+                Err(PieceRefusal::NoMemory)
+            }
         }
     }
 }

@@ -3,24 +3,24 @@
 ghost use Rattle.std.specs.Prelude.{◌≡◌, IfOk, IfErr};
 ghost use Rattle.run_model.specs.declared.event.Event.TheVariants.{Begin, Bring, Close, End, Open};
 ghost use Rattle.module_run.specs.Happened.{refusal_of};
-ghost use Rattle.filter_chain.specs.Hosting.{close_answer, done_answer, open_answer, output_in};
+ghost use Rattle.filter_chain.specs.Hosting.{close_answer, done_answer, open_answer, output_in, step_answer};
 ghost use Rattle.run_model.specs.Worlds.{World};
-ghost use Rattle.filter_chain.specs.Safe.{GoesWell};
+ghost use Rattle.filter_chain.specs.Safe.{GoesWell, IsUnfaulted};
 ghost use Rattle.host_lib.specs.Awake.{IsAwake};
-ghost use Rattle.host_lib.specs.Does.{Does, DropsPieces, HasConnection, KeepsPieces, RunsUpTo, StandsFor, pieces_of};
+ghost use Rattle.host_lib.specs.Does.{Does, DropsPieces, HasConnection, KeepsPieces, RunsUpTo, SessionStandsFor, pieces_of};
 ghost use Rattle.host_lib.specs.Adding.{TellsPiece};
 ghost use Rattle.host_lib.specs.Output.{CopiesBytes, TellsOutput, bytes_in};
-ghost use Rattle.host_lib.specs.Making.{IsMade};
-ghost use Rattle.host_lib.specs.Texts.{IsRefusedFor};
+ghost use Rattle.host_lib.specs.Making.{IsNewSession};
+ghost use Rattle.host_lib.specs.Texts.{IsChainRefused};
 
-use crate::loading::{Lengths, LoadRefusal, chain};
+use crate::loading::{LoadRefusal, TextLengths, chain};
 use crate::pieces::{PieceRefusal, Pieces, piece};
 use filter_chain::{Host, LabelsRun, Limits, MemFiles, Refusal, Stepped};
 use std::alloc::Global;
 
 /// A host of one chain, and the pieces that its connections are brought next.
 #[derive(Drop)]
-pub struct Session {
+pub struct HostSession {
     pub(crate) alloc: Global,
     pub(crate) host: Host<MemFiles>,
     pub(crate) pieces: Pieces,
@@ -38,21 +38,21 @@ fn copy_into(bytes: &[u8], buffer: &mut [u8]) -> usize
     len
 }
 
-impl Session {
+impl HostSession {
     /// A session of the chain that these texts are.
     pub(crate) fn new(
         alloc: Global,
         texts: &[u8],
-        lengths: &[Lengths],
+        lengths: &[TextLengths],
         budget: u64,
-    ) -> Result<Session, LoadRefusal>
-        ensures made { IfOk result (IsMade texts.now lengths.now budget) }
-        ensures refused { IfErr result (IsRefusedFor texts.now lengths.now) }
+    ) -> Result<HostSession, LoadRefusal>
+        ensures made { IfOk result (IsNewSession texts.now lengths.now budget) }
+        ensures refused { IfErr result (IsChainRefused texts.now lengths.now) }
         ensures awake { IfOk result IsAwake }
     {
         let chain = chain(alloc, texts, lengths)?;
         match Host::checked(alloc, MemFiles::new(alloc), chain, Limits { budget }) {
-            Ok(host) => Ok(Session {
+            Ok(host) => Ok(HostSession {
                 alloc,
                 host,
                 pieces: Pieces::new(alloc),
@@ -66,6 +66,7 @@ impl Session {
         requires { IsAwake self.old }
         ensures awake { IsAwake self.new }
         ensures event { Does self.old self.new 0 Open (open_answer result) }
+        ensures unfaulted { IsUnfaulted (open_answer result) }
         ensures pieces { KeepsPieces self.old self.new }
     {
         self.host.open_conn()
@@ -76,6 +77,7 @@ impl Session {
         requires { IsAwake self.old }
         ensures awake { IsAwake self.new }
         ensures event { Does self.old self.new number Begin (done_answer (refusal_of result)) }
+        ensures unfaulted { IsUnfaulted (done_answer (refusal_of result)) }
         ensures pieces { DropsPieces number self.old self.new }
     {
         let _ = self.pieces.take(number);
@@ -117,6 +119,7 @@ impl Session {
         requires { IsAwake self.old }
         ensures awake { IsAwake self.new }
         ensures event { Does self.old self.new number (Bring (pieces_of self.old number)) (done_answer (refusal_of result)) }
+        ensures unfaulted { IsUnfaulted (done_answer (refusal_of result)) }
         ensures pieces { DropsPieces number self.old self.new }
     {
         let pieces = self.pieces.take(number);
@@ -129,6 +132,7 @@ impl Session {
         ensures awake { IsAwake self.new }
         ensures steps { RunsUpTo most self.old self.new number result }
         ensures safe { GoesWell result }
+        ensures unfaulted { IsUnfaulted (step_answer result) }
         ensures pieces { KeepsPieces self.old self.new }
     {
         self.host.step_up_to(number, most)
@@ -136,7 +140,7 @@ impl Session {
 
     /// The length of the output. Where it fits into the buffer it is copied to its front.
     fn copy_output(&self, number: u64, buffer: &mut [u8]) -> usize
-        ensures { (w : World) → StandsFor self.now w → CopiesBytes (bytes_in (output_in (w.conns number))) buffer.old buffer.new result }
+        ensures { (w : World) → SessionStandsFor self.now w → CopiesBytes (bytes_in (output_in (w.conns number))) buffer.old buffer.new result }
     {
         match self.host.output(number) {
             Ok(bytes) => copy_into(bytes, buffer),
@@ -165,6 +169,7 @@ impl Session {
         requires { IsAwake self.old }
         ensures awake { IsAwake self.new }
         ensures event { Does self.old self.new number End (done_answer (refusal_of result)) }
+        ensures unfaulted { IsUnfaulted (done_answer (refusal_of result)) }
         ensures pieces { DropsPieces number self.old self.new }
     {
         let _ = self.pieces.take(number);
@@ -176,6 +181,7 @@ impl Session {
         requires { IsAwake self.old }
         ensures awake { IsAwake self.new }
         ensures event { Does self.old self.new number Close (close_answer result) }
+        ensures unfaulted { IsUnfaulted (close_answer result) }
         ensures pieces { DropsPieces number self.old self.new }
     {
         let _ = self.pieces.take(number);

@@ -10,7 +10,7 @@ use run_model::FaultKind;
 /// Why a chain is not taken.
 #[repr(C)]
 #[derive(Clone, Copy)]
-pub struct Told {
+pub struct LoadTold {
     /// What is refused: one of the numbers below; 0 where the chain is taken.
     pub what: u32,
     /// The code of the line, or the rule.
@@ -65,12 +65,12 @@ fn rule_code(rule: Rule) -> u32
     }
 }
 
-impl Told {
+impl LoadTold {
     /// What tells of no module.
-    fn of(what: u32) -> Told
+    fn of(what: u32) -> LoadTold
         ensures { result ≡ only what }
     {
-        Told {
+        LoadTold {
             what,
             code: 0,
             module: 0,
@@ -79,33 +79,33 @@ impl Told {
     }
 
     /// It is taken.
-    pub(crate) fn taken() -> Told
+    pub(crate) fn taken() -> LoadTold
         ensures { result ≡ only 0 }
     {
-        Told::of(0)
+        LoadTold::of(0)
     }
 
     /// The handle holds a session already.
-    pub(crate) fn held() -> Told
+    pub(crate) fn held() -> LoadTold
         ensures { result ≡ only 6 }
     {
-        Told::of(HELD)
+        LoadTold::of(HELD)
     }
 
     /// Why it is not taken.
-    pub(crate) fn why(refusal: LoadRefusal) -> Told
+    pub(crate) fn why(refusal: LoadRefusal) -> LoadTold
         ensures { result ≡ told_of refusal }
     {
         match refusal {
-            LoadRefusal::NoChain => Told::of(NO_CHAIN),
-            LoadRefusal::NoMemory => Told::of(NO_MEMORY),
-            LoadRefusal::NoModule { index, line, code } => Told {
+            LoadRefusal::NoChain => LoadTold::of(NO_CHAIN),
+            LoadRefusal::NoMemory => LoadTold::of(NO_MEMORY),
+            LoadRefusal::NoModule { index, line, code } => LoadTold {
                 what: NO_MODULE,
                 code: code.number() as u32,
                 module: index as u64,
                 place: line as u64,
             },
-            LoadRefusal::NoCert { index, line, code } => Told {
+            LoadRefusal::NoCert { index, line, code } => LoadTold {
                 what: NO_CERT,
                 code: code.number() as u32,
                 module: index as u64,
@@ -114,7 +114,7 @@ impl Told {
             LoadRefusal::NotSafe {
                 index,
                 refusal: CheckRefusal { pc, rule },
-            } => Told {
+            } => LoadTold {
                 what: REFUSED,
                 code: rule_code(rule),
                 module: index as u64,

@@ -1,13 +1,13 @@
 use Rattle.std.proofs.Common.{map, get_or, arith}
 use Rattle.std.proofs.lemmas.Grind.{common_steps}
 use Rattle.script_text.specs.Heads.{seen_part}
-use Rattle.host_lib.specs.declared.loading.Lengths.{Lengths}
+use Rattle.host_lib.specs.declared.loading.TextLengths.{TextLengths}
 use Rattle.host_lib.specs.Texts.{texts_from}
 use Rattle.host_lib.proofs.Fronts.{front_pushed, next_at, next_fits, next_rest, seen_count}
 use Rattle.host_lib.proofs.Refused.{first_refused}
 use Rattle.host_lib.proofs.loading.parts.Goals as goal
 
-abbrev none : Lengths
+abbrev none : TextLengths
 none = record { «module» = 0; certificate = 0 }
 
 pub next_part-requires : goal.next_part-requires

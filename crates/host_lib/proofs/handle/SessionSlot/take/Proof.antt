@@ -28,24 +28,24 @@ use Rattle.std.specs.contracts.impls.GlobalAllocator.TheImpl.{ghosts}
 use Rattle.std.proofs.raw_atomic.Walks.{proved_at, leaves}
 use Rattle.std_alloc.specs.Box.Ownership.{box_owns}
 use Rattle.host_lib.specs.Owned.{session_owns}
-use Rattle.host_lib.specs.contracts.session.Session as held
+use Rattle.host_lib.specs.contracts.session.HostSession as held
 use Rattle.host_lib.proofs.Values.{both, Loose, loose_good, loose_in, al}
-use Rattle.host_lib.specs.Awake.{IsHeld}
+use Rattle.host_lib.specs.Awake.{HoldsSession}
 use Rattle.host_lib.proofs.Steps.{held_there}
-use Rattle.host_lib.proofs.Slots.{Row, one_val, one_typed, slot_out}
-use Rattle.host_lib.specs.contracts.handle.Slot.take.{ended, clauses}
-use Rattle.host_lib.specs.contracts.handle.Slot.take.Key.{name as #self}
-use Rattle.host_lib.proofs.handle.Slot.take.Statement.{statement}
-use Rattle.host_lib.proofs.handle.Slot.take.Code as code
+use Rattle.host_lib.proofs.Slots.{SlotRow, one_val, one_typed, slot_out}
+use Rattle.host_lib.specs.contracts.handle.SessionSlot.take.{ended, clauses}
+use Rattle.host_lib.specs.contracts.handle.SessionSlot.take.Key.{name as #self}
+use Rattle.host_lib.proofs.handle.SessionSlot.take.Statement.{statement}
+use Rattle.host_lib.proofs.handle.SessionSlot.take.Code as code
 
 pub take_spec : {M : Type 1} → statement M
 take_spec 𝓤 𝓛 𝓜 𝓡 wired =
     let H = 𝓛.H in let 𝓣 = tables 𝓤 H 𝓜 𝓡 𝓡.env in let c = clauses 𝓛 𝓜.mem 𝓡.returns in let fn = code.function in
     let R : RattleType = held.the_row in let Z : RattleType = heap.the_row in let LZ = heap_laws.the_row_laws in let Lr : RattleType = Loose R Z LZ ghosts in
-    let hs : Stays ended.signature.params ended.kept = (stay_dropped (plain (λ _. Row)) yes, (stay_dropped (plain (λ _. Z)) yes, tt)) in
-    proved_at 𝓛 ended hs c 𝓜 𝓡 (Goes-dropped 𝓛 0 (plain (λ _. Row)) yes (λ κs x f. refl), (Goes-dropped 𝓛 0 (plain (λ _. Z)) yes (λ κs x f. refl), tt)) #self fn (code.unfolded 𝓤 H 𝓜 𝓡 wired) (λ z are.
-    let Post : Val → SProp 𝓤 = (walk_of 𝓛 ended hs c).post z in let Run : List Val → SProp 𝓤 = λ us. WpFn 𝓤 H 𝓣.C 𝓣.Λ fn us Post in let d : Row.Denot = z.0.3.0 in let a : Z.Denot = z.0.3.1.0 in
-    let Asked : Type 0 = IsHeld d.value in
+    let hs : Stays ended.signature.params ended.kept = (stay_dropped (plain (λ _. SlotRow)) yes, (stay_dropped (plain (λ _. Z)) yes, tt)) in
+    proved_at 𝓛 ended hs c 𝓜 𝓡 (Goes-dropped 𝓛 0 (plain (λ _. SlotRow)) yes (λ κs x f. refl), (Goes-dropped 𝓛 0 (plain (λ _. Z)) yes (λ κs x f. refl), tt)) #self fn (code.unfolded 𝓤 H 𝓜 𝓡 wired) (λ z are.
+    let Post : Val → SProp 𝓤 = (walk_of 𝓛 ended hs c).post z in let Run : List Val → SProp 𝓤 = λ us. WpFn 𝓤 H 𝓣.C 𝓣.Λ fn us Post in let d : SlotRow.Denot = z.0.3.0 in let a : Z.Denot = z.0.3.1.0 in
+    let Asked : Type 0 = HoldsSession d.value in
     qed 𝓛 ((raw (alive 𝓛 ended.signature z.0.0 z.0.1) ⊛ ‵ (owns (types_at ended.signature.params z.0.0) z.0.3 z.0.4)) ∷ raw (fact 𝓤 Asked) ∷ []) ∵ move ! (1 ∷ []) $ heard ! Asked (λ was. let asked = held_there d.value was in let x : R.Denot = asked.0 in split ! $ move ! (1 ∷ []) $ fsplit ! $
     slot_out ! d z.0.4.0 (λ ws. rewrite ! 0 (λ (s : Option R.Denot). ‵ (session_owns R d.at s)) asked.1 refl $
     in_a_block ! d.at (λ p. box_owns chunk R p x) (fst∗ 𝓤 (never 𝓤) (sem 𝓛 (chunk (bare (lone R.mir)) null_ptr))) (λ b o e. move ! (1 ∷ []) $ fsplit ! $

@@ -10,12 +10,12 @@ use Rattle.std.specs.Prelude.{Option, Some, None}
 use Rattle.libc.specs.Heap.{chunk-Keyless}
 use Rattle.std_alloc.proofs.SendSync.{quiet, lies}
 use Rattle.host_lib.specs.Owned.{session_owns}
-use Rattle.host_lib.specs.declared.session.Session.{Session}
-use Rattle.host_lib.specs.contracts.session.Session as held
-use Rattle.host_lib.proofs.session.Session.TheSendSync.{the_send as session_send}
-use Rattle.host_lib.specs.contracts.handle.Slot.{the_row, the_type}
+use Rattle.host_lib.specs.declared.session.HostSession.{HostSession}
+use Rattle.host_lib.specs.contracts.session.HostSession as held
+use Rattle.host_lib.proofs.session.HostSession.TheSendSync.{the_send as session_send}
+use Rattle.host_lib.specs.contracts.handle.SessionSlot.{the_row, the_type}
 
-slot_keyless : (p : Ptr) (x : Option Session) → Keyless (session_owns held.the_row p x)
+slot_keyless : (p : Ptr) (x : Option HostSession) → Keyless (session_owns held.the_row p x)
 slot_keyless p None = tt
 slot_keyless p (Some x) = (lies held.the_row session_send p x, chunk-Keyless (raw (lone held.the_row.mir)) p)
 

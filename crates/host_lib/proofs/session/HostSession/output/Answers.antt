@@ -1,7 +1,7 @@
 use Rattle.std.proofs.Common.{◌<◌, ◌≤◌, length, arith}
 use Rattle.host_lib.proofs.Shown.{told_kept, told_taken}
 use Rattle.host_lib.proofs.Steps.{awake_in}
-use Rattle.host_lib.proofs.session.Session.output.Goals as goal
+use Rattle.host_lib.proofs.session.HostSession.output.Goals as goal
 
 pub returns-then-len-room-clause-told : goal.returns-then-len-room-clause-told
 returns-then-len-room-clause-told c w stands =

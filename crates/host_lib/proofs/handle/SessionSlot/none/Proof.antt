@@ -17,18 +17,18 @@ use denote.Triple.Entry.{alive}
 use denote.Triple.Walked.{Stays, walk_of}
 use Rattle.std.specs.Prelude.{None}
 use Rattle.std.proofs.raw_atomic.Walks.{proved_at, leaves}
-use Rattle.host_lib.proofs.Slots.{Row, one_val, one_typed, slot_in}
-use Rattle.host_lib.specs.contracts.handle.Slot.none.{ended, clauses}
-use Rattle.host_lib.specs.contracts.handle.Slot.none.Key.{name as #self}
-use Rattle.host_lib.proofs.handle.Slot.none.Statement.{statement}
-use Rattle.host_lib.proofs.handle.Slot.none.Code as code
+use Rattle.host_lib.proofs.Slots.{SlotRow, one_val, one_typed, slot_in}
+use Rattle.host_lib.specs.contracts.handle.SessionSlot.none.{ended, clauses}
+use Rattle.host_lib.specs.contracts.handle.SessionSlot.none.Key.{name as #self}
+use Rattle.host_lib.proofs.handle.SessionSlot.none.Statement.{statement}
+use Rattle.host_lib.proofs.handle.SessionSlot.none.Code as code
 
 pub none_spec : {M : Type 1} → statement M
 none_spec 𝓤 𝓛 𝓜 𝓡 wired =
     let H = 𝓛.H in let 𝓣 = tables 𝓤 H 𝓜 𝓡 𝓡.env in let c = clauses 𝓛 𝓜.mem 𝓡.returns in let fn = code.function in
     let hs : Stays ended.signature.params ended.kept = tt in
     proved_at 𝓛 ended hs c 𝓜 𝓡 tt #self fn (code.unfolded 𝓤 H 𝓜 𝓡 wired) (λ z are.
-    let Post : Val → SProp 𝓤 = (walk_of 𝓛 ended hs c).post z in let d : Row.Denot = record { at = null_ptr; value = None } in
+    let Post : Val → SProp 𝓤 = (walk_of 𝓛 ended hs c).post z in let d : SlotRow.Denot = record { at = null_ptr; value = None } in
     qed 𝓛 ((raw (alive 𝓛 ended.signature z.0.0 z.0.1) ⊛ ‵ (owns (types_at ended.signature.params z.0.0) z.0.3 z.0.4)) ∷ ‵ ftrue ∷ []) ∵ split ! $
     enter ! 𝓣.C 𝓣.Λ fn [] Post $ alloc_all ! (λ l. pass_all ! refl tt $
     sets ! (agg ! (and_then ! (lit ! tt) (no_more !))) refl (one_typed null_ptr) $

@@ -22,13 +22,13 @@ use Rattle.std.specs.contracts.alloc.Global as heap
 use Rattle.std.proofs.alloc.Global.TheLaws as heap_laws
 use Rattle.std.specs.contracts.impls.GlobalAllocator.TheImpl.{ghosts}
 use Rattle.std.proofs.raw_atomic.Walks.{proved_at, leaves}
-use Rattle.host_lib.specs.contracts.session.Session as held
+use Rattle.host_lib.specs.contracts.session.HostSession as held
 use Rattle.host_lib.proofs.Values.{both, Loose, loose_good, loose_out}
-use Rattle.host_lib.proofs.Slots.{Row, one_val, one_typed, slot_in}
-use Rattle.host_lib.specs.contracts.handle.Slot.put.{ended, clauses}
-use Rattle.host_lib.specs.contracts.handle.Slot.put.Key.{name as #self}
-use Rattle.host_lib.proofs.handle.Slot.put.Statement.{statement}
-use Rattle.host_lib.proofs.handle.Slot.put.Code as code
+use Rattle.host_lib.proofs.Slots.{SlotRow, one_val, one_typed, slot_in}
+use Rattle.host_lib.specs.contracts.handle.SessionSlot.put.{ended, clauses}
+use Rattle.host_lib.specs.contracts.handle.SessionSlot.put.Key.{name as #self}
+use Rattle.host_lib.proofs.handle.SessionSlot.put.Statement.{statement}
+use Rattle.host_lib.proofs.handle.SessionSlot.put.Code as code
 
 pub put_spec : {M : Type 1} → statement M
 put_spec 𝓤 𝓛 𝓜 𝓡 wired =
@@ -38,7 +38,7 @@ put_spec 𝓤 𝓛 𝓜 𝓡 wired =
     proved_at 𝓛 ended hs c 𝓜 𝓡 (Goes-dropped 𝓛 0 (plain (λ _. Lr)) yes (λ κs x f. refl), tt) #self fn (code.unfolded 𝓤 H 𝓜 𝓡 wired) (λ z are.
     let Post : Val → SProp 𝓤 = (walk_of 𝓛 ended hs c).post z in let Run : List Val → SProp 𝓤 = λ us. WpFn 𝓤 H 𝓣.C 𝓣.Λ fn us Post in let v : Lr.Denot = z.0.3.0 in
     qed 𝓛 ((raw (alive 𝓛 ended.signature z.0.0 z.0.1) ⊛ ‵ (owns (types_at ended.signature.params z.0.0) z.0.3 z.0.4)) ∷ ‵ ftrue ∷ []) ∵ move ! (1 ∷ []) $ drop ! $ split ! $ move ! (1 ∷ []) $ fsplit ! $
-    loose_out R Z LZ ghosts ! v z.0.4.0 (λ b o h e ws fits. let w : Val = both (vptr b o) h in let d : Row.Denot = record { at = block_ptr b o; value = Some v.value } in
+    loose_out R Z LZ ghosts ! v z.0.4.0 (λ b o h e ws fits. let w : Val = both (vptr b o) h in let d : SlotRow.Denot = record { at = block_ptr b o; value = Some v.value } in
     suffices ! (Run (w ∷ [])) (subst (λ (us : List Val). ent 𝓤 (Run (w ∷ [])) (Run us)) (sym (λ i. ws i ++ [])) (id⊢ 𝓤 (Run (w ∷ [])))) $
     enter ! 𝓣.C 𝓣.Λ fn (w ∷ []) Post $ alloc_all ! (λ l. pass_all ! refl (loose_good R Z LZ ghosts b o h fits, tt) $
     sets ! (of_opd ! (get_in ! (fld ! refl (stop !)) (sub ! 0 refl (whole !)))) refl (tt, tt) $ sets ! (of_opd ! (get ! refl)) refl (tt, tt) $
