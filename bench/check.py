@@ -1,11 +1,13 @@
 #!/usr/bin/env python3
-"""Measures `certify` and `check` on modules of growing size, and `check` with the slim form of the certificate.
+"""Measures `certify` and `check` on modules of growing size, and `check` with the slim form of the certificate. Then it tells how many bytes the
+certificates of filters/ have, full and slim, beside the same in version 1.
 
     python3 bench/check.py [PROGRAM]
 
 PROGRAM is crates/host_cli/out/host_cli where none is given (`./host` builds it). Each time is the best of five runs, less that of
 a run which reads the same module and a certificate text that is none. The memory is the most that the process had at once.
 """
+import glob
 import os
 import subprocess
 import sys
@@ -83,6 +85,36 @@ def measure(name, body, folder):
                  len(certificate), 1000 * (slimly - base), len(slim)))
 
 
+def in_version_1(text):
+    """A certificate of version 2, as it is spelled in version 1."""
+    first, _, _, *lines = text.decode('ascii').splitlines()
+    said = {}
+    for place, line in enumerate(lines):
+        number, _, state = line.partition(' ')
+        if state.startswith('same '):
+            state = said[state[len('same '):]]
+            lines[place] = '%s %s' % (number, state)
+        said[number] = state
+    return '\n'.join(['slim 1' if first.endswith('slim') else 'cert 1', *lines, '']).encode('ascii')
+
+
+def tell_filters():
+    """The bytes of the certificates of the filters in both versions. That of version 1 is upgraded by the program, so that it is the same."""
+    modules = sorted(glob.glob(os.path.join(TOP, 'filters', '*.mod')))
+    for form, words in (('full', []), ('slim', ['--slim'])):
+        now = before = 0
+        for module in modules:
+            text = subprocess.run([PROGRAM, 'certify', *words, module], capture_output=True, check=True).stdout
+            old = in_version_1(text)
+            with tempfile.NamedTemporaryFile() as file:
+                file.write(old)
+                file.flush()
+                if subprocess.run([PROGRAM, 'upgrade', module, file.name], capture_output=True).stdout != text:
+                    raise SystemExit('%s: what is upgraded is not what is made' % module)
+            now, before = now + len(text), before + len(old)
+        print('%d filters, certificates %s: %d bytes, %d in version 1, %.2f of these' % (len(modules), form, now, before, now / before))
+
+
 def main():
     if not os.access(PROGRAM, os.X_OK):
         raise SystemExit('bench/check.py: there is no program %s; ./host builds the one of this repository' % PROGRAM)
@@ -90,6 +122,7 @@ def main():
         measure('straight', straight, folder)
         measure('a join at each second one', joins, folder)
         measure('loops nested 8 deep', nested, folder)
+    tell_filters()
 
 
 if __name__ == '__main__':

@@ -22,9 +22,22 @@ CLOSED = ('identity', 'bsave_keeps_transient', 'cleanup_order', 'aside_into_the_
 MOST_STEPS = 200
 
 
-def script(name):
-    with open(os.path.join(CASES, name + '.script'), 'rb') as file:
+# What is told of the identity without the line of each instruction, in version 1 and in version 2, where a line `same` names some of them.
+WITHOUT_A_LINE = (
+    ['refused at 0: entry', 'refused at 1: entry', 'refused at 2: entry', 'refused at 2: flow', 'refused at 3: flow', 'refused at 2: flow',
+     'refused at 5: flow', 'refused at 3: flow'],
+    ['cert line 6 code 3', 'refused at 1: entry', 'cert line 10 code 3', 'refused at 2: flow', 'cert line 12 code 3', 'refused at 2: flow',
+     'refused at 5: flow', 'refused at 3: flow'],
+)
+
+
+def read(path):
+    with open(path, 'rb') as file:
         return file.read()
+
+
+def script(name):
+    return read(os.path.join(CASES, name + '.script'))
 
 
 def refuse(program, folder, told):
@@ -32,8 +45,8 @@ def refuse(program, folder, told):
     refuser = refusals.Refuser(program, folder)
     serve.lay_out(program, folder)
     found = [(name, refusals.play(refuser, script(name))) for name in REFUSED]
-    module, cert = IDENTITY + '.module', IDENTITY + '.certify'
-    for words in (['assemble', module], ['certify', module], ['check', module, cert]):
+    module, cert, old = IDENTITY + '.module', IDENTITY + '.certify', IDENTITY + '.whole.cert'
+    for words in (['assemble', module], ['certify', module], ['check', module, cert], ['check', module, old], ['upgrade', module, old]):
         found.append((words[0], refusals.ask(refuser, words)))
     found.append(('serve', refusals.serve_pages(refuser, folder)))
     for name, (_, _, fault) in found:
@@ -123,12 +136,10 @@ def answer(program, words, folder, **texts):
 
 def cut(program, folder, told):
     """Cuts a module text and its certificate at each byte, and takes lines out of the certificate; gives how many texts there were."""
-    with open(IDENTITY + '.module', 'rb') as file:
-        module = file.read()
-    with open(IDENTITY + '.certify', 'rb') as file:
-        cert = file.read()
+    module = read(IDENTITY + '.module')
+    certs = [read(IDENTITY + '.whole.cert'), read(IDENTITY + '.certify')]
     count = 0
-    for word, text, words in ((b'asm', module, ['assemble', 'module']), (b'cert', cert, ['check', 'module', 'cert'])):
+    for word, text, words in ((b'asm', module, ['assemble', 'module']), *((b'cert', cert, ['check', 'module', 'cert']) for cert in certs)):
         for at in range(len(text)):
             front = text[:at]
             lines, rest = front.count(b'\n'), front[front.rfind(b'\n') + 1:]
@@ -138,14 +149,18 @@ def cut(program, folder, told):
             count += 1
             if found != due:
                 told('the first %d bytes of %s: %r, due is %r' % (at, words[-1], found, due))
+    return count + sum(left_out(program, folder, told, module, cert, rules) for cert, rules in zip(certs, WITHOUT_A_LINE))
+
+
+def left_out(program, folder, told, module, cert, answers):
+    """Takes each line of an instruction out of a certificate; gives how many there were."""
     lines = cert.splitlines(keepends=True)
-    rules = ['0: entry', '1: entry', '2: entry', '2: flow', '3: flow', '2: flow', '5: flow', '3: flow']
-    for number, rule in enumerate(rules):
-        found = answer(program, ['check', 'module', 'cert'], folder, module=module, cert=b''.join(lines[:3 + number] + lines[4 + number:]))
-        count += 1
-        if found != b'refused at %s\n' % rule.encode():
+    first = len(lines) - 1 - len(answers)
+    for number, due in enumerate(answers):
+        found = answer(program, ['check', 'module', 'cert'], folder, module=module, cert=b''.join(lines[:first + number] + lines[first + number + 1:]))
+        if found != due.encode() + b'\n':
             told('the certificate without line %d: %r' % (number, found))
-    return count
+    return len(answers)
 
 
 def check(program, folder):

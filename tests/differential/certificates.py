@@ -2,17 +2,20 @@
 from dataclasses import replace
 
 from odd import STRANGE_BYTES
-from reading.certificates import Certificate, grow, show_certificate
+from reading.certificates import Certificate, grow, heads, numbers_of, show_certificate, slim
 from reading.states import CONTENTS, NOTHING, Cursor, usable
 
 HOMES = ['call', 'req', 'dead', 'p0', 'p1', 'p7']
-ODD_LINES = ['cert 1', 'cert 2', 'cert', 'slim 1', 'idle none', 'ready none', 'idle', 'ready ', 'end', 'end ', '', '# x', '0',
+ODD_LINES = ['cert 1', 'cert 2', 'cert 3', 'cert', 'slim 1', 'slim 2', 'cert 2 full', 'cert 2 slim', 'cert 2 full ', 'vars 0 0', 'vars 1 1', 'vars 8 8',
+             'vars 9 0', 'vars 0 9', 'vars 1', 'vars 00 0', 'vars', 'code 1', 'code 0', 'code 1024', 'code 1025', 'code 08', 'code', 'code 8 ', '0 same 0',
+             '1 same 0', '2 same 0', '5 same 2', '7 same 4', '3 same 1', '2 same', '1023 same 1023', '4 same 04', 'idle same 0', 'ready same 0', 'idle none', 'ready none', 'idle', 'ready ', 'end', 'end ', '', '# x', '0',
              '0 sent=no', '1024 sent=no', '1023 sent=no', '00 sent=no', ' 1 sent=no', 'idle sent=no', 'ready sent=maybe', 'x',
              '2 sent=maybe in=u/o/call', '3 sent=no in=u/o/call c0=in/d rd=in/d', 'module 1', 'accepted']
 ODD_WORDS = ['sent=no', 'sent=maybe', 'p0=l', 'p0=nl', 'p0=ln', 'p1=ngl', 'b0=n', 'b0=l', 'b0=l/u/e/-', 'b0=l/p', 'b0=nl/up/a/call,dead',
              'b0=gl/u/n/req', 'b1=g', 'in=p', 'in=u/o/call', 'in=up/a/-', 'in=u/o/dead,call', 'c0=in/d', 'c0=in/ed', 'c0=in$',
              'c0=in?/dfe', 'c0=b0/d', 'c1=b0?/f', 'c1=loose/d/-', 'c2=loose/e/call', 'rd=in/d', 'rd=in$', 'rd=loose/d/p0', 'c0!c1',
-             'c1!c0', 'c0!rd', 'c1!rd', 'c7=loose/f/-', 'c8=in/d', 'in=u/o/call,p0', 'in=u/o/', 'in=u', 'p8=l', 'c0=', '']
+             'c1!c0', 'c0!rd', 'c1!rd', 'c7=loose/f/-', 'c8=in/d', 'in=u/o/call,p0', 'in=u/o/', 'in=u', 'p8=l', 'c0=', 'same', 'same 0',
+             'full', 'slim', '']
 
 
 def subset_near(rng, members, letters):
@@ -106,7 +109,7 @@ def certificate_near(rng, certificate):
             at[rng.choice([pc + 1, max(at) + 1])] = at[pc]
         else:
             at[pc] = state_near(rng, at[pc])
-    return Certificate(idle, ready, at)
+    return replace(certificate, idle=idle, ready=ready, at=at)
 
 
 def greater(rng, module, certificate):
@@ -119,10 +122,27 @@ def greater(rng, module, certificate):
     return grow(module, [(place, one) for place, one in places if one] + [(place, near)])
 
 
+def spelled(rng, module, certificate):
+    """The certificate in one of the two versions, full or slim; now and then with numbers that are not the module's, or with a line of no head."""
+    numbers = list(numbers_of(module))
+    if rng.random() < .05:
+        place = rng.randrange(3)
+        numbers[place] = rng.randint(1, 1024) if place == 2 else rng.randint(0, 8)
+    certificate = replace(certificate, numbers=rng.choice([None, tuple(numbers)]))
+    if rng.random() < .4:
+        full, certificate = certificate, slim(module, certificate)
+        others = sorted(set(full.at) - heads(module))
+        if others and rng.random() < .1:
+            pc = rng.choice(others)
+            certificate.at[pc] = full.at[pc]
+    return certificate
+
+
 def certificate_text(rng, module, certificate):
     """The text of a certificate, or of one near it; now and then with faults."""
     if rng.random() < .25:
         certificate = greater(rng, module, certificate)
+    certificate = spelled(rng, module, certificate)
     for _ in range(rng.choice([0, 0, 1, 1, 1, 2, 3])):
         certificate = certificate_near(rng, certificate)
     text = show_certificate(certificate)
@@ -131,7 +151,38 @@ def certificate_text(rng, module, certificate):
         text = changed_text(rng, text)
     elif chance < .27:
         text = text[:rng.randrange(len(text) + 1)]
+    elif chance < .45 and certificate.numbers:
+        text = with_another_same(rng, text)
     return text
+
+
+def with_another_same(rng, text):
+    """A text of version 2 in which one line names another line, or writes out what it should name."""
+    lines = text.decode('ascii').split('\n')[:-1]
+    states = {line.split(' ')[0]: place for place, line in enumerate(lines) if line[0].isdigit()}
+    same = [number for number, place in states.items() if ' same ' in lines[place]]
+    if not states:
+        return text
+    number = rng.choice(same) if same and rng.random() < .7 else rng.choice(list(states))
+    place = states[number]
+    named = lines[place].split(' ')[-1]
+    chance = rng.random()
+    if chance < .25 and number in same:                      # the state is written out, or the line that says it is left out
+        lines[place] = '%s %s' % (number, lines[states[named]].split(' ', 1)[1])
+    elif chance < .4 and number in same:
+        del lines[states[named]]
+    else:
+        lines[place] = '%s same %s' % (number, named_by(rng, list(states), same, number, named))
+    return ''.join(line + '\n' for line in lines).encode('ascii')
+
+
+def named_by(rng, numbers, same, number, named):
+    """The line that a `same` names in place of the one that is due: any, a later one, a `same` line, itself, none, or in another spelling."""
+    others = [one for one in numbers if one not in same]
+    later = [one for one in numbers if int(one) > int(number)]
+    absent = [str(pc) for pc in range(int(numbers[-1]) + 2) if str(pc) not in numbers]
+    return rng.choice([rng.choice(others), rng.choice(others), rng.choice(later or numbers), rng.choice(same or numbers), number, rng.choice(absent),
+                       '1023', '1024', '', ' ' + named, '0' + named, named + ' '])
 
 
 def changed_text(rng, text):
@@ -166,6 +217,4 @@ def changed_text(rng, text):
         line = lines[place]
         cut = rng.randrange(len(line) + 1)
         lines[place] = line[:cut] + chr(rng.choice(STRANGE_BYTES)) + line[cut:]
-    if lines[:1] == ['slim 1']:                              # a slim certificate, of which the reading knows nothing
-        del lines[0]
     return ('\n'.join(lines) + '\n' * (rng.random() < .98)).encode('latin-1')

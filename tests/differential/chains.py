@@ -15,6 +15,7 @@ import tempfile
 import time
 import traceback
 from contextlib import suppress
+from dataclasses import replace
 
 import trials
 from accepted import hand_written
@@ -25,7 +26,7 @@ from filters import LEAVING, MEETING, PAIR
 from growths import Growths
 from modules import FILTERS, random_module
 from odd import quote, some_bytes
-from reading.certificates import Refusal, make, show_certificate
+from reading.certificates import Refusal, make, show_certificate, slim
 from reading.chains import Host
 from reading.counts import ARISEN, arose, table, uncounted
 from reading.scripts import TooBig, play
@@ -43,15 +44,20 @@ NO_SCRIPT = (b'asm line ', b'cert line ', b'script line ', b'refused module ')
 
 
 class Filter:
-    """A module: its text, what it says, and the text of its certificate, or None where it is not accepted. Raises FaultyText."""
+    """A module: its text, what it says, and the text of its certificate, or None where it is not accepted; `spellings` are that text and those
+    of the same states in the slim form and in version 1. Raises FaultyText."""
 
     def __init__(self, text):
         self.text, self.module = text, assemble_alone(text)
         self.passes = any(word == 'pass' for word, *_ in self.module.code)
         try:
-            self.certificate = show_certificate(make(self.module))
+            full = make(self.module)
         except Refusal:
-            self.certificate = None
+            self.certificate, self.spellings = None, [b'']
+        else:
+            forms = [full, slim(self.module, full)]
+            self.spellings = [show_certificate(one) for form in forms for one in (form, replace(form, numbers=None))]
+            self.certificate = self.spellings[0]
 
 
 class Filters:
@@ -323,7 +329,7 @@ def script_of(rng, chain, unchecked):
     talk = Talk(rng, chain, troubled=False)
     with uncounted(), suppress(AssertionError):          # the script shows what is wrong, too
         talk.all()
-    texts = b''.join(filter.text + (filter.certificate or b'' if rng.random() < .5 else b'') for filter in chain)
+    texts = b''.join(filter.text + (rng.choice(filter.spellings) if rng.random() < .5 else b'') for filter in chain)
     lines = ['budget %d' % talk.host.budget] + ['checked'] * (not unchecked) + talk.lines
     return texts + ''.join(line + '\n' for line in lines).encode('latin-1')
 

@@ -1,5 +1,5 @@
 #!/usr/bin/env python3
-"""Makes and checks certificates of random modules with a program and with the reading of its rules, and compares the answers.
+"""Makes, checks and upgrades certificates of random modules with a program and with the reading of its rules, and compares the answers.
 Modules that are accepted are then played, and must have no fault.
 
     python3 tests/differential/check.py [N] [SEED] [--program PATH] [--keep FOLDER] [--plays N]
@@ -10,12 +10,13 @@ import os
 import subprocess
 import tempfile
 import time
+from dataclasses import replace
 
 from certificates import certificate_text
 from compare import LONGEST, PROGRAM, generator_of, shown
 from modules import random_module
 from odd import quote, some_bytes
-from reading.certificates import Refusal, answer, certify, check_texts, grow, make, show_certificate
+from reading.certificates import Refusal, answer, certify, check_texts, grow, make, show_certificate, upgrade_texts
 from reading.counts import arose, table
 from reading.scripts import TooBig, play
 from reading.texts import FaultyText, assemble_alone, print_module
@@ -51,8 +52,12 @@ class Reading:
             return (*answer(lambda: print_module(assemble_alone(files[0]))), b'')
         if words == ['certify']:
             return (*certify(files[0]), b'')
+        if words == ['certify', '--slim']:
+            return (*certify(files[0], is_slim=True), b'')
         if words == ['check']:
             return (*check_texts(*files), b'')
+        if words == ['upgrade']:
+            return (*upgrade_texts(*files), b'')
         return (*play(script), b'')
 
 
@@ -100,15 +105,19 @@ def parts_of(rng, module, plays):
     """What is asked about one module: words, files and script."""
     yield ['assemble'], [module], b''
     yield ['certify'], [module], b''
+    yield ['certify', '--slim'], [module], b''
     try:
         read = assemble_alone(module)
     except FaultyText:
-        yield ['check'], [module, b'cert 1\nidle none\nready none\nend\n'], b''
+        yield [rng.choice(['check', 'upgrade'])], [module, b'cert 1\nidle none\nready none\nend\n'], b''
         return
     certificate = grow(read)
     yield ['check'], [module, show_certificate(certificate)], b''
+    yield ['upgrade'], [module, show_certificate(replace(certificate, numbers=None))], b''
     for _ in range(5):
-        yield ['check'], [module, certificate_text(rng, read, certificate)], b''
+        text = certificate_text(rng, read, certificate)
+        yield ['check'], [module, text], b''
+        yield ['upgrade'], [module, text], b''
     if is_certified(read):
         arose('certified')
         for _ in range(plays):
@@ -134,7 +143,7 @@ def report(players, path, words, files, script, answers):
         if data:
             with open(path + end, 'wb') as file:
                 file.write(data[0])
-    print('%s: %s of %s.*' % ('FAULT of an accepted module' if has_fault(answers) else 'DIFFERENCE', words[0], path))
+    print('%s: %s of %s.*' % ('FAULT of an accepted module' if has_fault(answers) else 'DIFFERENCE', ' '.join(words), path))
     for player, told in zip(players, answers):
         print('  %s: %s' % (type(player).__name__.lower(), shown(told)))
 
@@ -156,7 +165,7 @@ def compare_all(players, options):
 
 
 def main():
-    parser = argparse.ArgumentParser(description='Compares `assemble`, `certify` and `check` with a reading of their rules.')
+    parser = argparse.ArgumentParser(description='Compares `assemble`, `certify`, `check` and `upgrade` with a reading of their rules.')
     parser.add_argument('n', nargs='?', type=int, default=20000, metavar='N', help='how many answers')
     parser.add_argument('seed', nargs='?', default='1', metavar='SEED', help='any word; the same word gives the same modules')
     parser.add_argument('--program', default=PROGRAM, help='crates/host_cli/out/host_cli where it is not given')

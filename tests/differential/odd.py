@@ -24,7 +24,7 @@ ODD_OPERANDS = [
 ODD_LINES = [
     'module 1', 'module', 'module 2', 'open', 'open x', 'init', 'init ', 'main', 'end', 'end ', ':aa', ':', ':A', ': a', ':a b',
     ':a:', ':1', ':a_', ':abcdefghijklmnop', ':abcdefghijklmnopq', 'pool', 'pool p0 conn', 'pool p1 p0', 'pool p8 conn',
-    'brigade b0', 'brigade b0 conn', 'brigade b0 p3', 'brigade b8 conn', 'cert 1', 'slim 1', 'checked', 'budget 5', 'Open',
+    'brigade b0', 'brigade b0 conn', 'brigade b0 p3', 'brigade b8 conn', 'cert 1', 'slim 1', 'cert 2 full', 'checked', 'budget 5', 'Open',
     'x', '"', 'p0', 'ret', 'clearbuf ', 'leave', 'prelabel p0 "a"', '', '   ', '#', '# note', '  # x', '#\x7f', ' \x01', '\t',
 ]
 ODD_COMMANDS = [

@@ -3,21 +3,24 @@
 
     python3 tests/differential/play.py < SCRIPT
     python3 tests/differential/play.py assemble MODULE
-    python3 tests/differential/play.py certify MODULE
+    python3 tests/differential/play.py certify [--slim] MODULE
     python3 tests/differential/play.py check MODULE CERTIFICATE
+    python3 tests/differential/play.py upgrade MODULE CERTIFICATE
 
 A script may have 1 to 16 modules and any number of connections. The exit status is the program's, too.
 """
 import sys
 
-from reading.certificates import answer, certify, check_texts
+from reading.certificates import answer, certify, check_texts, upgrade_texts
 from reading.scripts import play
 from reading.texts import assemble_alone, print_module
 
 COMMANDS = {
     'assemble': (1, lambda module: answer(lambda: print_module(assemble_alone(module)))),
     'certify': (1, certify),
+    'certify --slim': (1, lambda module: certify(module, is_slim=True)),
     'check': (2, check_texts),
+    'upgrade': (2, upgrade_texts),
 }
 
 
@@ -28,6 +31,8 @@ def read_file(name):
 
 def main():
     word, *names = sys.argv[1:] or ['play']
+    if (word, names[:1]) == ('certify', ['--slim']):
+        word, names = 'certify --slim', names[1:]
     if word == 'play' and not names:
         printed, status = play(sys.stdin.buffer.read())
     elif word in COMMANDS and len(names) == COMMANDS[word][0]:

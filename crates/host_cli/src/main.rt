@@ -1,4 +1,4 @@
-//! The program: it plays scripts, prints modules, and makes and checks certificates.
+//! The program: it plays scripts, prints modules, and makes, checks and upgrades certificates.
 #![tactic(auto)]
 
 mod serve_options;
@@ -9,10 +9,10 @@ use byte_streams::{CountedSource, StdSink};
 use clap::Error;
 use clap::error::ErrorKind;
 use http_serve::run_serve;
-use life_explain::{explain_certify, explain_check, explain_play};
+use life_explain::{explain_certify, explain_check, explain_play, explain_upgrade};
 use module_tools::{
-    Ended, NamedFile, PlayFault, Recorded, RecordedWriter, run_assemble, run_certify, run_check,
-    run_new,
+    CertTask, Ended, NamedFile, PlayFault, Recorded, RecordedWriter, run_assemble, run_certify,
+    run_check, run_new, run_upgrade,
 };
 use script_play::run_play;
 use std::alloc::AllocError;
@@ -129,9 +129,10 @@ fn play_script(rt: &HostRuntime, asked: bool) -> ExitCode {
     end(rt, played, "standard input", None)
 }
 
-/// Checks a certificate of a module, and tells how that ended.
-fn check<T: Read + Drop, C: Read + Drop>(
+/// Checks or upgrades a certificate of a module, and tells how that ended.
+fn ask_with_cert<T: Read + Drop, C: Read + Drop>(
     rt: &HostRuntime,
+    task: CertTask,
     file: T,
     cert: C,
     helps: bool,
@@ -139,24 +140,46 @@ fn check<T: Read + Drop, C: Read + Drop>(
     let mut reader = CountedSource::from_reader(Recorded::new(rt.alloc(), file, helps));
     let mut certs = CountedSource::from_reader(Recorded::new(rt.alloc(), cert, helps));
     let mut writer = StdSink::new(rt.stdout());
-    let checked = run_check(rt.alloc(), &mut reader, &mut certs, &mut writer);
-    if helps && is_refused(&checked) {
+    let ended = match task {
+        CertTask::Check => run_check(rt.alloc(), &mut reader, &mut certs, &mut writer),
+        CertTask::Upgrade => run_upgrade(rt.alloc(), &mut reader, &mut certs, &mut writer),
+    };
+    if helps && is_refused(&ended) {
         let given = reader.source().reader.given();
         let cert_given = certs.source().reader.given();
-        tell_help(rt, explain_check(rt.alloc(), given, cert_given));
+        tell_help(rt, explained(rt, task, given, cert_given));
     }
-    checked
+    ended
 }
 
-fn check_file(rt: &HostRuntime, file: &str, cert: &str, asked: bool) -> ExitCode {
+/// Why a certificate is refused, in words.
+fn explained(
+    rt: &HostRuntime,
+    task: CertTask,
+    text: &[u8],
+    cert: &[u8],
+) -> Result<String, AllocError> {
+    match task {
+        CertTask::Check => explain_check(rt.alloc(), text, cert),
+        CertTask::Upgrade => explain_upgrade(rt.alloc(), text, cert),
+    }
+}
+
+fn ask_with_cert_file(
+    rt: &HostRuntime,
+    task: CertTask,
+    file: &str,
+    cert: &str,
+    asked: bool,
+) -> ExitCode {
     let mut module_file = NamedFile::new(rt, file);
     let mut cert_file = NamedFile::new(rt, cert);
     let helps = tells_help(rt, asked);
-    let checked = check(rt, &mut module_file, &mut cert_file, helps);
+    let ended = ask_with_cert(rt, task, &mut module_file, &mut cert_file, helps);
     if cert_file.is_read() {
-        end(rt, checked, cert, cert_file.fault())
+        end(rt, ended, cert, cert_file.fault())
     } else {
-        end(rt, checked, file, module_file.fault())
+        end(rt, ended, file, module_file.fault())
     }
 }
 
@@ -175,11 +198,12 @@ fn perform(rt: &HostRuntime, task: CliTask<'_>) -> ExitCode {
             is_slim,
             explains,
         } => certify_input(rt, is_slim, explains),
-        CliTask::Check {
+        CliTask::WithCert {
+            task,
             file,
             cert,
             explains,
-        } => check_file(rt, file, cert, explains),
+        } => ask_with_cert_file(rt, task, file, cert, explains),
         CliTask::Serve(options) => run_serve(rt, &options),
     }
 }

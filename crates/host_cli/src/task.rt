@@ -4,6 +4,7 @@ use crate::serve_options::options_of;
 use crate::words::program;
 use clap::{ArgMatches, Error};
 use http_serve::ServeOptions;
+use module_tools::CertTask;
 use std::alloc::Global;
 
 /// What the words of the command line ask for.
@@ -25,14 +26,25 @@ pub enum CliTask<'a> {
         is_slim: bool,
         explains: bool,
     },
-    /// A certificate is checked.
-    Check {
+    /// A certificate is checked, or upgraded.
+    WithCert {
+        task: CertTask,
         file: &'a str,
         cert: &'a str,
         explains: bool,
     },
     /// Connections are served.
     Serve(ServeOptions<'a>),
+}
+
+/// What a command is called for that takes a module and a certificate.
+fn cert_tool<'a>(task: CertTask, file: &'a str, given: &ArgMatches<'a>) -> CliTask<'a> {
+    CliTask::WithCert {
+        task,
+        file,
+        cert: given.get_str("CERT").unwrap_or(""),
+        explains: given.get_flag("explain"),
+    }
 }
 
 /// What a command is called for that judges or plays.
@@ -48,11 +60,8 @@ fn tool_of<'a>(name: &str, given: &ArgMatches<'a>) -> CliTask<'a> {
             is_slim: given.get_flag("slim"),
             explains,
         },
-        "check" => CliTask::Check {
-            file,
-            cert: given.get_str("CERT").unwrap_or(""),
-            explains,
-        },
+        "check" => cert_tool(CertTask::Check, file, given),
+        "upgrade" => cert_tool(CertTask::Upgrade, file, given),
         _ => CliTask::Play { explains },
     }
 }

@@ -176,6 +176,11 @@ const COMMANDS: &[CommandRow] = &[
         words: &[FILE, CERT, EXPLAIN],
     },
     CommandRow {
+        name: "upgrade",
+        about: "Prints a certificate of version 1, which is checked first, in version 2",
+        words: &[FILE, CERT, EXPLAIN],
+    },
+    CommandRow {
         name: "serve",
         about: "Serves the files of a site over HTTP/1.1, through a chain of filters that is checked first",
         words: SERVE,

@@ -37,7 +37,7 @@ IsTextsAt texts lengths k pair = (each : TextLengths) × (slice_get lengths k �
 -- a certificate's text is empty where there is none
 abbrev pub IsCertOf : List ℕ → Option Cert → Type 0
 IsCertOf text None = text ≡ []
-IsCertOf text (Some c) = (text ≢ []) × IsCertText text c.slim (seen_cert c)
+IsCertOf text (Some c) = (text ≢ []) × IsCertText text c.version c.slim (seen_cert c)
 
 -- The texts are of this module and this certificate.
 abbrev pub IsPartOf : List ℕ × List ℕ → ScriptPart → Type 0

@@ -1,9 +1,9 @@
 pub mod Homes
 pub mod SlimLists
+pub mod SumLaws
+pub mod RepeatLaws
 pub mod Lines
 pub mod Writing
-pub mod DraftLaws
-pub mod ReadLaws
 pub mod Growing
 pub mod Handed
 pub mod Arriving
@@ -26,8 +26,13 @@ pub mod StateTexts
 pub mod StateReading
 pub mod TextFacts
 pub mod OneState
+pub mod SaidLaws
+pub mod SayingLaws
+pub mod DraftLaws
+pub mod ReadLaws
 pub mod PrintedStates
 pub mod TextLengths
+pub mod DraftSteps
 pub mod PrintedCert
 pub mod OneCert
 pub mod Least

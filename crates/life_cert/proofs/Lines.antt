@@ -1,72 +1,102 @@
 -- The lines of the instructions' states.
-use Rattle.std.proofs.Common.{◌≡◌, ℕ, zero, suc, ◌+◌, ◌-◌, ◌<◌, ◌≤◌, List, [], ◌∷◌, ◌++◌, length, get_or, replicate, Option, Some, None, refl, sym, ap, subst, ◌∙◌, append_assoc, append-nil, arith}
-use Rattle.std.proofs.Common.{rules}
+use Rattle.std.proofs.Common.{◌≡◌, ℕ, zero, suc, ◌+◌, ◌-◌, ◌<◌, ◌≤◌, List, [], ◌∷◌, ◌++◌, length, get_or, replicate, Option, Some, None, refl, sym, ap, subst, ◌∙◌, ap₂, append_assoc, append-nil, arith}
+use Rattle.std.proofs.Common.{rules, length-append}
+use Rattle.std.proofs.lemmas.List.{length-replicate}
 use Rattle.std.specs.Prelude.{slice_get, IfSome, IsSome}
 use Rattle.life_state.specs.declared.state.State as code
 use Rattle.life_state.specs.Form.{IsFormed}
 use Rattle.life_state.specs.Seen.{seen, seen_some}
 use Rattle.life_check.specs.Seen.{seen_line}
 use Rattle.life_cert.specs.StateText.{each}
-use Rattle.life_cert.specs.CertText.{pc_line}
 
 pub line_at : (xs : List (Option code.State)) (k : ℕ) (d : Option code.State) → k < length xs → seen_line (slice_get xs k) ≡ seen_some (get_or xs k d)
 line_at [] k d below = absurd (omega arith)
 line_at (x ∷ xs) zero d below = refl
 line_at (x ∷ xs) (suc k) d below = line_at xs k d (omega arith)
 
--- The lines of these states, of which the first has number k.
-abbrev pub lines_text : ℕ → List (Option code.State) → List ℕ
-lines_text k [] = []
-lines_text k (x ∷ xs) = pc_line k (seen_some x) ++ lines_text (k + 1) xs
-
-each_same : (n k : ℕ) (f g : ℕ → List ℕ) → ((i : ℕ) → k ≤ i → i < k + n → f i ≡ g i) → each k n f ≡ each k n g
+pub each_same : (n k : ℕ) (f g : ℕ → List ℕ) → ((i : ℕ) → k ≤ i → i < k + n → f i ≡ g i) → each k n f ≡ each k n g
 unfolding each
 each_same zero k f g same = refl
 each_same (suc n) k f g same =
     ap (λ x. x ++ each (k + 1) n f) (same k (omega arith) (omega arith)) ∙ ap (λ x. g k ++ x) (each_same n (k + 1) f g (λ i low high. same i (omega arith) (omega arith)))
 
-abbrev line_from : ℕ → List (Option code.State) → ℕ → List ℕ
-line_from k xs i = pc_line i (seen_line (slice_get xs (i - k)))
-
-lines_from : (xs : List (Option code.State)) (k : ℕ) → each k (length xs) (line_from k xs) ≡ lines_text k xs
+each_none : (n k : ℕ) (f : ℕ → List ℕ) → ((i : ℕ) → k ≤ i → i < k + n → f i ≡ []) → each k n f ≡ []
 unfolding each
-lines_from [] k = refl
-lines_from (x ∷ xs) k =
-    let here : k - k ≡ 0 = omega arith in
-    let first : line_from k (x ∷ xs) k ≡ pc_line k (seen_some x) = ap (λ i. pc_line k (seen_line (slice_get (x ∷ xs) i))) here in
-    ap (λ t. t ++ each (k + 1) (length xs) (line_from k (x ∷ xs))) first
-    ∙ ap (λ t. pc_line k (seen_some x) ++ t) (each_same (length xs) (k + 1) (line_from k (x ∷ xs)) (line_from (k + 1) xs) (λ i low high. next i low) ∙ lines_from xs (k + 1))
-  where
-    next : (i : ℕ) → k + 1 ≤ i → line_from k (x ∷ xs) i ≡ line_from (k + 1) xs i
-    next i low =
-        let one : i - k ≡ suc (i - (k + 1)) = omega arith in
-        ap (λ j. pc_line i (seen_line (slice_get (x ∷ xs) j))) one
+each_none zero k f none = refl
+each_none (suc n) k f none =
+    ap (λ x. x ++ each (k + 1) n f) (none k (omega arith) (omega arith)) ∙ each_none n (k + 1) f (λ i low high. none i (omega (arith, low)) (omega (arith, high)))
 
-pub lines_are : (xs : List (Option code.State)) → each 0 (length xs) (λ pc. pc_line pc (seen_line (slice_get xs pc))) ≡ lines_text 0 xs
-lines_are xs = each_same (length xs) 0 (λ pc. pc_line pc (seen_line (slice_get xs pc))) (line_from 0 xs)
-    (λ i low high. let same : i ≡ i - 0 = omega arith in ap (λ j. pc_line i (seen_line (slice_get xs j))) same) ∙ lines_from xs 0
+each_both : (m n k : ℕ) (f : ℕ → List ℕ) → each k (m + n) f ≡ each k m f ++ each (k + m) n f
+unfolding each
+each_both zero n k f =
+    let count : zero + n ≡ n = omega arith in
+    let place : k ≡ k + zero = omega arith in
+    ap₂ (λ (i j : ℕ). each i j f) place count
+each_both (suc m) n k f =
+    let count : suc m + n ≡ suc (m + n) = omega arith in
+    let place : k + 1 + m ≡ k + suc m = omega arith in
+    ap (λ (j : ℕ). each k j f) count
+    ∙ ap (λ t. f k ++ t) (each_both m n (k + 1) f ∙ ap (λ (i : ℕ). each (k + 1) m f ++ each i n f) place)
+    ∙ sym (append_assoc (f k) (each (k + 1) m f) (each (k + suc m) n f))
 
-lines_both : (xs ys : List (Option code.State)) (k : ℕ) → lines_text k (xs ++ ys) ≡ lines_text k xs ++ lines_text (k + length xs) ys
-lines_both [] ys k = let same : k ≡ k + 0 = omega arith in ap (λ i. lines_text i ys) same
-lines_both (x ∷ xs) ys k =
-    let same : k + 1 + length xs ≡ k + suc (length xs) = omega arith in
-    ap (λ t. pc_line k (seen_some x) ++ t) (lines_both xs ys (k + 1) ∙ ap (λ i. lines_text (k + 1) xs ++ lines_text i ys) same)
-    ∙ sym (append_assoc (pc_line k (seen_some x)) (lines_text (k + 1) xs) (lines_text (k + suc (length xs)) ys))
+each_one : (k : ℕ) (f : ℕ → List ℕ) → each k 1 f ≡ f k
+unfolding each
+each_one k f = append-nil (f k)
 
-lines_none : (m k : ℕ) → lines_text k (replicate m None) ≡ []
-lines_none zero k = refl
-lines_none (suc m) k = lines_none m (k + 1)
+-- one line more, behind some that are empty
+pub each_more_line : (f g : ℕ → List ℕ) (n m pc : ℕ) → pc ≡ n + m → ((i : ℕ) → i < n → g i ≡ f i) → ((i : ℕ) → n ≤ i → i < pc → g i ≡ []) → each 0 (pc + 1) g ≡ each 0 n f ++ g pc
+each_more_line f g n m pc at same none =
+    let first : each 0 n g ≡ each 0 n f = each_same n 0 g f (λ i low high. same i (omega (arith, high))) in
+    let second : each n m g ≡ [] = each_none m n g (λ i low high. none i low (omega (arith, at, high))) in
+    let count : pc + 1 ≡ n + (m + 1) = omega (arith, at) in
+    let place : 0 + n ≡ n = omega arith in
+    ap (λ (j : ℕ). each 0 j g) count
+    ∙ each_both n (m + 1) 0 g
+    ∙ ap₂ (λ (x y : List ℕ). x ++ y) first
+    (ap (λ (i : ℕ). each i (m + 1) g) place ∙ each_both m 1 n g ∙ ap₂ (λ (x y : List ℕ). x ++ y) second (each_one (n + m) g ∙ ap g (sym at)))
 
--- one more state, behind instructions that have none
-pub lines_more : (xs : List (Option code.State)) (m : ℕ) (s : code.State) (pc : ℕ) → pc ≡ length xs + m → length (xs ++ replicate m None) ≡ pc
-    → lines_text 0 ((xs ++ replicate m None) ++ Some s ∷ []) ≡ lines_text 0 xs ++ pc_line pc (Some (seen s))
-lines_more xs m s pc at long =
-    let some : lines_text (0 + length (xs ++ replicate m None)) (Some s ∷ []) ≡ pc_line pc (Some (seen s)) =
-    ap (λ i. lines_text (0 + i) (Some s ∷ [])) long ∙ ap (λ i. lines_text i (Some s ∷ [])) (omega arith) ∙ append-nil (pc_line pc (Some (seen s))) in
-    lines_both (xs ++ replicate m None) (Some s ∷ []) 0
-    ∙ ap (λ t. t ++ lines_text (0 + length (xs ++ replicate m None)) (Some s ∷ []))
-    (lines_both xs (replicate m None) 0 ∙ ap (λ t. lines_text 0 xs ++ t) (lines_none m (0 + length xs)) ∙ append-nil (lines_text 0 xs))
-    ∙ ap (λ t. lines_text 0 xs ++ t) some
+-- A state behind lines that have none.
+
+line_before : (xs ys : List (Option code.State)) (k : ℕ) → k < length xs → slice_get (xs ++ ys) k ≡ slice_get xs k
+line_before [] ys k low = absurd (omega (arith, low))
+line_before (x ∷ xs) ys zero low = refl
+line_before (x ∷ xs) ys (suc k) low = line_before xs ys k (omega (arith, low))
+
+line_behind : (xs ys : List (Option code.State)) (k : ℕ) → slice_get (xs ++ ys) (length xs + k) ≡ slice_get ys k
+line_behind [] ys k = let same : 0 + k ≡ k = omega arith in ap (slice_get ys) same
+line_behind (x ∷ xs) ys k =
+    let less : suc (length xs) + k ≡ suc (length xs + k) = omega arith in
+    ap (slice_get (x ∷ (xs ++ ys))) less ∙ line_behind xs ys k
+
+none_line : (m k : ℕ) → seen_line (slice_get (replicate m None) k) ≡ None
+none_line zero k = refl
+none_line (suc m) zero = refl
+none_line (suc m) (suc k) = none_line m k
+
+module _ (xs : List (Option code.State)) (m : ℕ) (s : code.State) where
+  abbrev more : List (Option code.State)
+  more = (xs ++ replicate m None) ++ Some s ∷ []
+
+  long : length (xs ++ replicate m None) ≡ length xs + m
+  long = let none : Option code.State = None in length-append xs (replicate m none) ∙ ap (λ (n : ℕ). length xs + n) (length-replicate m none)
+
+  pub more_before : (k : ℕ) → k < length xs → seen_line (slice_get more k) ≡ seen_line (slice_get xs k)
+  more_before k low =
+      let size = long in
+      ap seen_line (line_before (xs ++ replicate m None) (Some s ∷ []) k (omega (arith, low, size)) ∙ line_before xs (replicate m None) k low)
+
+  pub more_none : (k : ℕ) → length xs ≤ k → k < length xs + m → seen_line (slice_get more k) ≡ None
+  more_none k low high =
+      let size = long in
+      let at : k ≡ length xs + (k - length xs) = omega (arith, low) in
+      ap seen_line (line_before (xs ++ replicate m None) (Some s ∷ []) k (omega (arith, high, size)) ∙ ap (slice_get (xs ++ replicate m None)) at ∙ line_behind xs (replicate m None) (k - length xs))
+      ∙ none_line m (k - length xs)
+
+  pub more_last : (pc : ℕ) → pc ≡ length xs + m → seen_line (slice_get more pc) ≡ Some (seen s)
+  more_last pc at =
+      let size = long in
+      let place : pc ≡ length (xs ++ replicate m None) + 0 = omega (arith, at, size) in
+      ap seen_line (ap (slice_get more) place ∙ line_behind (xs ++ replicate m None) (Some s ∷ []) 0)
 
 -- Lines whose states are in form.
 abbrev pub LinesFormed : List (Option code.State) → Type 0

@@ -1,8 +1,8 @@
 -- How long texts are: that of a state in form has 1,187 bytes at most.
 use Rattle.std.proofs.Common.{◌≡◌, ℕ, zero, suc, ◌+◌, ◌<◌, ◌≤◌, Bool, true, false, ◌&&◌, if◌then◌else◌, List, [], ◌∷◌, ◌++◌, length, codes, decimal, Option, Some, None, IfSome, inl, inr, refl, ap}
 use Rattle.std.proofs.Common.{sym, subst, ◌∙◌, arith}
-use Rattle.std.specs.Prelude.{nat_lt}
-use Rattle.std.proofs.lemmas.Bool.{cases_eq, eq-eqb, ltb-false, ltb-true, ne_eqb}
+use Rattle.std.specs.Prelude.{nat_le, nat_lt}
+use Rattle.std.proofs.lemmas.Bool.{cases_eq, eq-eqb, leb-true, ltb-false, ltb-true, ne_eqb}
 use Rattle.std.proofs.lemmas.Fmt.{length-decimal-le}
 use Rattle.std.proofs.lemmas.List.{length-append}
 use Rattle.life_state.specs.declared.parts.Classes.{Classes}
@@ -14,8 +14,13 @@ use Rattle.life_state.specs.States.{BrigadeKnown, CursorKnown, End, Homes, In, I
 use Rattle.life_check.specs.Certificates.{Certificate}
 use Rattle.life_cert.specs.declared.print_state.HomeWord.{HomeWord}
 use Rattle.life_cert.specs.declared.print_state.HomeWord.TheVariants as home
-use Rattle.life_cert.specs.CertText.{first_line, between_line, cert_text, pc_line, state_or_none}
-use Rattle.life_cert.specs.Lengths.{StateTextsAreShort, CertTextsAreShort}
+use Rattle.life_check.specs.declared.version.CertVersion.{CertVersion}
+use Rattle.life_check.specs.declared.version.CertVersion.TheVariants as version
+use Rattle.life_check.specs.Versions.{is_in_range}
+use Rattle.life_state.proofs.Tests.{split2, split3}
+use Rattle.life_cert.proofs.RepeatLaws.{found_at}
+use Rattle.life_cert.specs.CertText.{first_line, vars_line, code_line, head_lines, between_line, cert_text, earlier, first_with, is_two, pc_line, said, said_by, said_line, state_or_none}
+use Rattle.life_cert.specs.Lengths.{StateTextsAreShort, CertTextsAreShort, head_more}
 use Rattle.life_cert.specs.Reading.{IsPrinted, IsWritable}
 use Rattle.life_cert.specs.StateText.{brigade_name, brigade_text, classes_text, content_text, cursor_name, cursor_text, each, fact_text, facts_text, has_home, home_text, homes, homes_text, in_text}
 use Rattle.life_cert.specs.StateText.{live_text, more_homes, place_text_of, pool_text, sent_text, set_text, some_homes, state_text, usable_text, where_holds}
@@ -250,14 +255,30 @@ more_each f zero m k few h = sym (none_each f m k (λ i low. h i (omega (arith, 
 more_each f (suc n) zero k few h = absurd (omega (arith, few))
 more_each f (suc n) (suc m) k few h = ap (λ t. f k ++ t) (more_each f n m (k + 1) (omega (arith, few)) (λ i low. h i (omega (arith, low))))
 
-pub all_lines : (c : Certificate) → IsWritable c → each 0 c.lines (λ i. pc_line i (c.at i)) ≡ each 0 1024 (λ i. pc_line i (c.at i))
-all_lines c h = by (nat_lt c.lines 1024) refl
+no_line : (two : Bool) (at : ℕ → Option State) (pc : ℕ) → at pc ≡ None → pc_line two at pc ≡ []
+no_line two at pc h = ap (λ o. said_line pc (said two at pc o)) h
+
+pub all_lines : (two : Bool) (c : Certificate) → IsWritable c → each 0 c.lines (pc_line two c.at) ≡ each 0 1024 (pc_line two c.at)
+all_lines two c h = by (nat_lt c.lines 1024) refl
   where
-    by : (x : Bool) → nat_lt c.lines 1024 ≡ x → each 0 c.lines (λ i. pc_line i (c.at i)) ≡ each 0 1024 (λ i. pc_line i (c.at i))
-    by true e = more_each (λ i. pc_line i (c.at i)) c.lines 1024 0 (let low = ltb-true c.lines 1024 e in omega (arith, low)) (λ i low. ap (pc_line i) (h.none i (omega (arith, low))))
-    by false e = sym (more_each (λ i. pc_line i (c.at i)) 1024 c.lines 0 (ltb-false c.lines 1024 e) (λ i low. ap (pc_line i) (h.few i (omega (arith, low)))))
+    by : (x : Bool) → nat_lt c.lines 1024 ≡ x → each 0 c.lines (pc_line two c.at) ≡ each 0 1024 (pc_line two c.at)
+    by true e = more_each (pc_line two c.at) c.lines 1024 0 (let low = ltb-true c.lines 1024 e in omega (arith, low)) (λ i low. no_line two c.at i (h.none i (omega (arith, low))))
+    by false e = sym (more_each (pc_line two c.at) 1024 c.lines 0 (ltb-false c.lines 1024 e) (λ i low. no_line two c.at i (h.few i (omega (arith, low)))))
 
 -- The lines of a certificate.
+
+-- by how much the first line is longer, and how long the shape is
+abbrev head_first : CertVersion → ℕ
+head_first version.One = 0
+head_first (version.Two p b n) = 5
+
+abbrev head_shape : CertVersion → ℕ
+head_shape version.One = 0
+head_shape (version.Two p b n) = 19
+
+heads_are : (v : CertVersion) → head_first v + head_shape v ≡ head_more v
+heads_are version.One = refl
+heads_are (version.Two p b n) = refl
 
 or_none_within : (o : Option State) → IfSome o IsFormed → IsWithin 1187 (state_or_none o)
 or_none_within None f = less 4 1187 (codes "none") (exact (codes "none")) (omega arith)
@@ -266,40 +287,85 @@ or_none_within (Some s) f = state_within s f
 between_within : (n : ℕ) (word : List ℕ) (o : Option State) → IsWithin n word → IfSome o IsFormed → IsWithin (n + 1188) (between_line word o)
 between_within n word o h f = both n 1188 word (state_or_none o ++ codes "\n") h (both 1187 1 (state_or_none o) (codes "\n") (or_none_within o f) (exact (codes "\n")))
 
-line_within : (pc : ℕ) (o : Option State) → pc < 1024 → IfSome o IsFormed → IsWithin 1193 (pc_line pc o)
-line_within pc None low f = less 0 1193 [] (exact []) (omega arith)
-line_within pc (Some s) low f =
-    both 4 1189 (decimal pc) (codes " " ++ (state_text s ++ codes "\n")) (record { within = length-decimal-le 4 pc (omega arith) (omega (arith, low)) (omega (arith, low)) })
-    (both 1 1188 (codes " ") (state_text s ++ codes "\n") (exact (codes " ")) (both 1187 1 (state_text s) (codes "\n") (state_within s f) (exact (codes "\n"))))
+number_within : (pc : ℕ) → pc < 1024 → IsWithin 4 (decimal pc)
+number_within pc low = record { within = length-decimal-le 4 pc (omega arith) (omega (arith, low)) (omega (arith, low)) }
+
+said_within : (at : ℕ → Option State) (pc : ℕ) (m : Option ℕ) (s : State) → pc < 1024 → first_with at pc s ≡ m → IsFormed s → IsWithin 1187 (said_by m s)
+said_within at pc None s low e f = state_within s f
+said_within at pc (Some m) s low e f =
+    let found = found_at at pc s m e in
+    let below = found.below in
+    less 9 1187 (codes "same " ++ decimal m) (both 5 4 (codes "same ") (decimal m) (exact (codes "same ")) (number_within m (omega (arith, low, below)))) (omega arith)
+
+earlier_within : (two : Bool) (at : ℕ → Option State) (pc : ℕ) (s : State) → pc < 1024 → IsFormed s → IsWithin 1187 (said_by (earlier two at pc s) s)
+earlier_within true at pc s low f = said_within at pc (first_with at pc s) s low refl f
+earlier_within false at pc s low f = state_within s f
+
+line_within : (two : Bool) (at : ℕ → Option State) (pc : ℕ) (o : Option State) → pc < 1024 → IfSome o IsFormed → IsWithin 1193 (said_line pc (said two at pc o))
+line_within two at pc None low f = less 0 1193 [] (exact []) (omega arith)
+line_within two at pc (Some s) low f =
+    let text = said_by (earlier two at pc s) s in
+    both 4 1189 (decimal pc) (codes " " ++ (text ++ codes "\n")) (number_within pc low)
+    (both 1 1188 (codes " ") (text ++ codes "\n") (exact (codes " ")) (both 1187 1 text (codes "\n") (earlier_within two at pc s low f) (exact (codes "\n"))))
 
 most_is : total 0 1024 (λ pc. 1193) ≡ 1221632
 unfolding total
 most_is = refl
 
-first_within : (slim : Bool) → IsWithin 7 (first_line slim)
-first_within true = exact (codes "slim 1\n")
-first_within false = exact (codes "cert 1\n")
+first_within : (v : CertVersion) (slim : Bool) → IsWithin (7 + head_first v) (first_line (is_two v) slim)
+first_within version.One true = exact (codes "slim 1\n")
+first_within version.One false = exact (codes "cert 1\n")
+first_within (version.Two p b n) true = exact (codes "cert 2 slim\n")
+first_within (version.Two p b n) false = exact (codes "cert 2 full\n")
+
+pub range_there : (p b n : ℕ) → is_in_range (version.Two p b n) ≡ true → (p ≤ 8) × (b ≤ 8) × (1 ≤ n) × (n ≤ 1024)
+range_there p b n h =
+    let last = split2 (nat_le p 8 && nat_le b 8 && nat_le 1 n) (nat_le n 1024) h in
+    let first = split3 (nat_le p 8) (nat_le b 8) (nat_le 1 n) last.0 in
+    (leb-true p 8 first.0, leb-true b 8 first.1, leb-true 1 n first.2, leb-true n 1024 last.1)
+
+shape_within : (v : CertVersion) → is_in_range v ≡ true → IsWithin (head_shape v) (vars_line v ++ code_line v)
+shape_within version.One h = exact []
+shape_within (version.Two p b n) h =
+    let low = range_there p b n h in
+    let few = low.0 in
+    let few_brigades = low.1 in
+    let many = low.3 in
+    both 9 10 (codes "vars " ++ (decimal p ++ (codes " " ++ (decimal b ++ codes "\n")))) (codes "code " ++ (decimal n ++ codes "\n"))
+    (both 5 4 (codes "vars ") (decimal p ++ (codes " " ++ (decimal b ++ codes "\n"))) (exact (codes "vars "))
+    (both 1 3 (decimal p) (codes " " ++ (decimal b ++ codes "\n")) (digit_within p (omega (arith, few)))
+    (both 1 2 (codes " ") (decimal b ++ codes "\n") (exact (codes " ")) (both 1 1 (decimal b) (codes "\n") (digit_within b (omega (arith, few_brigades))) (exact (codes "\n"))))))
+    (both 5 5 (codes "code ") (decimal n ++ codes "\n") (exact (codes "code "))
+    (both 4 1 (decimal n) (codes "\n") (record { within = length-decimal-le 4 n (omega arith) (omega (arith, many)) (omega (arith, many)) }) (exact (codes "\n"))))
 
 pub cert_texts_are_short : CertTextsAreShort
 unfolding cert_text
-cert_texts_are_short slim c h =
-    let lines = each 0 1024 (λ pc. pc_line pc (c.at pc)) in
+cert_texts_are_short v slim c named h =
+    let two = is_two v in
+    let lines = each 0 1024 (pc_line two c.at) in
     let idle = between_line (codes "idle ") c.idle in
     let ready = between_line (codes "ready ") c.ready in
     let most = total 0 1024 (λ pc. 1193) in
-    let whole : IsWithin (7 + (1193 + (1194 + (most + 4)))) (first_line slim ++ (idle ++ (ready ++ (lines ++ codes "end\n")))) =
-    both 7 (1193 + (1194 + (most + 4))) (first_line slim) (idle ++ (ready ++ (lines ++ codes "end\n"))) (first_within slim)
+    let heads = heads_are v in
+    let whole : IsWithin (7 + head_first v + head_shape v + (1193 + (1194 + (most + 4)))) (head_lines v slim ++ (idle ++ (ready ++ (lines ++ codes "end\n")))) =
+    both (7 + head_first v + head_shape v) (1193 + (1194 + (most + 4))) (head_lines v slim) (idle ++ (ready ++ (lines ++ codes "end\n")))
+    (both (7 + head_first v) (head_shape v) (first_line two slim) (vars_line v ++ code_line v) (first_within v slim) (shape_within v named))
     (both 1193 (1194 + (most + 4)) idle (ready ++ (lines ++ codes "end\n")) (between_within 5 (codes "idle ") c.idle (exact (codes "idle ")) h.idle)
     (both 1194 (most + 4) ready (lines ++ codes "end\n") (between_within 6 (codes "ready ") c.ready (exact (codes "ready ")) h.ready)
-    (both most 4 lines (codes "end\n") (each_within (λ pc. pc_line pc (c.at pc)) (λ pc. 1193) 1024 1024 0 (omega arith) (λ pc from low. line_within pc (c.at pc) low (h.at pc)))
+    (both most 4 lines (codes "end\n") (each_within (pc_line two c.at) (λ pc. 1193) 1024 1024 0 (omega arith) (λ pc from low. line_within two c.at pc (c.at pc) low (h.at pc)))
     (exact (codes "end\n"))))) in
     let few = whole.within in
     let sum = most_is in
-    let same = ap (λ (t : List ℕ). length (first_line slim ++ (idle ++ (ready ++ (t ++ codes "end\n"))))) (all_lines c h) in
-    omega (arith, few, sum, same)
+    let same = ap (λ (t : List ℕ). length (head_lines v slim ++ (idle ++ (ready ++ (t ++ codes "end\n"))))) (all_lines two c h) in
+    omega (arith, few, sum, same, heads)
 
-pub printed_is_short : (text : List ℕ) (slim : Bool) (c : Certificate) → IsPrinted text slim c → length text ≤ 4194304
-printed_is_short text slim c p =
-    let few = cert_texts_are_short slim c p.writable in
+few_more : (v : CertVersion) → head_more v ≤ 24
+few_more version.One = omega arith
+few_more (version.Two p b n) = omega arith
+
+pub printed_is_short : (text : List ℕ) (v : CertVersion) (slim : Bool) (c : Certificate) → IsPrinted text v slim c → length text ≤ 4194304
+printed_is_short text v slim c p =
+    let few = cert_texts_are_short v slim c p.named p.writable in
+    let more = few_more v in
     let same = ap (λ (t : List ℕ). length t) p.whole in
-    omega (arith, few, same)
+    omega (arith, few, same, more)

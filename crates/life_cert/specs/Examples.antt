@@ -5,7 +5,9 @@ use Rattle.life_state.specs.declared.parts.Classes.{Classes}
 use Rattle.life_state.specs.States.{In, State, Unset}
 use Rattle.life_state.specs.Examples.{brought, resting, serving}
 use Rattle.life_check.specs.Examples.{given, whole}
-use Rattle.life_cert.specs.CertText.{cert_text, pc_line}
+use Rattle.life_check.specs.declared.version.CertVersion.TheVariants as version
+use Rattle.life_cert.specs.CertText.{cert_text, said_line}
+use Rattle.life_cert.specs.StateText.{state_text}
 
 abbrev pub any_class : Classes
 any_class = record { bytes = true; flush = true; eos = true }
@@ -18,7 +20,10 @@ two_cursors = record (serving false brought) {
 }
 
 pub record WorkedTexts : Type 0 where
-  pub identity : cert_text false
+  pub identity : cert_text version.One false
       (given (resting true) whole) ≡ codes
       "cert 1\nidle sent=no\nready sent=maybe\n0 sent=no\n1 sent=no\n2 sent=maybe in=u/o/call\n3 sent=no in=u/o/call\n4 sent=maybe in=p\n5 sent=maybe in=u/o/call\n6 sent=maybe in=u/e/-\n7 sent=maybe in=p\nend\n"
-  pub cursors : pc_line 6 (Some two_cursors) ≡ codes "6 sent=no in=u/o/call c0=in/dfe c1=in/dfe c0!c1\n"
+  pub second : cert_text (version.Two 0 0 8) false
+      (given (resting true) whole) ≡ codes
+      "cert 2 full\nvars 0 0\ncode 8\nidle sent=no\nready sent=maybe\n0 sent=no\n1 same 0\n2 sent=maybe in=u/o/call\n3 sent=no in=u/o/call\n4 sent=maybe in=p\n5 same 2\n6 sent=maybe in=u/e/-\n7 same 4\nend\n"
+  pub cursors : said_line 6 (Some (state_text two_cursors)) ≡ codes "6 sent=no in=u/o/call c0=in/dfe c1=in/dfe c0!c1\n"

@@ -2,6 +2,7 @@ pub use Rattle.life_check.specs.Certificates
 pub mod Codes
 pub mod StateText
 pub mod StateFromText
+pub mod StateSums
 pub mod CertText
 pub mod Reading
 pub mod Drafts
@@ -12,6 +13,7 @@ pub mod Rounds
 pub mod SeenGrowth
 pub mod Fitting
 pub mod Made
+pub mod Upgrades
 pub mod Laws
 pub mod Least
 pub mod Lengths

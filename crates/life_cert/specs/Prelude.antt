@@ -10,8 +10,10 @@ pub use Rattle.life_check.specs.ChainTheorem.{ChainNeverFaults}
 pub use Rattle.life_check.specs.Seen.{seen_cert, seen_line}
 pub use Rattle.life_check.specs.Slim.{Accepts, AreHeads, slim_form}
 pub use Rattle.life_check.specs.Typed.{IsTyped}
-pub use Rattle.life_cert.specs.CertText.{between_line, cert_text, first_line, pc_line, state_or_none}
-pub use Rattle.life_cert.specs.Drafts.{IsNoState, IsReadState, NoStateIsIn, NoStateOrNoneIsIn}
+pub use Rattle.life_check.specs.Versions.{is_in_range, version_two}
+pub use Rattle.life_cert.specs.CertText.{between_line, cert_text, code_line, earlier, first_line, first_with, head_lines, is_again, is_two, pc_line}
+pub use Rattle.life_cert.specs.CertText.{said_by, said_line, state_or_none, vars_line}
+pub use Rattle.life_cert.specs.Drafts.{IsNoState, IsReadState, IsSameNumber, NoStateIsIn, NoStateOrNoneIsIn}
 pub use Rattle.life_cert.specs.Fitting.{IsDeclared, IsFit, IsOf, is_inside}
 pub use Rattle.life_cert.specs.Least.{IsBelow}
 pub use Rattle.life_cert.specs.Made.{IsCertMade, IsRefused}

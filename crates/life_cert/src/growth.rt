@@ -4,7 +4,7 @@ ghost use Rattle.std.specs.Prelude.{◌≡◌, ◌<◌, ◌≤◌, true, length,
 ghost use Rattle.life_cert.specs.Prelude.{IsModule, seen, seen_some, seen_cert, state_at, with_state, grow, arrive, begun, is_inside, seen_arrival, seen_growth};
 ghost use Rattle.life_state.specs.States.{State as known};
 
-use life_check::Cert;
+use life_check::{Cert, CertVersion};
 use life_state::{State, at_open, join, leq};
 use module_code::Module;
 use std::alloc::{AllocError, Global};
@@ -57,6 +57,7 @@ impl Growth {
         prove!(has_code);
         let first = at_open(code.pool_count(), code.brigade_count());
         let mut cert = Cert {
+            version: CertVersion::One,
             slim: false,
             idle: None,
             ready: None,

@@ -33,8 +33,8 @@ pub fn texts_tell_states()
     ensures { TextsTellStates }
 {}
 
-/// The text of a state in form has 1,187 bytes at most, and that of a certificate of such states 1,224,030: no certificate that is
-/// printed is longer than a text may be.
+/// The text of a state in form has 1,187 bytes at most, and that of a certificate of such states 1,224,030, of version 2
+/// 24 more: no certificate that is printed is longer than a text may be.
 pub fn texts_are_short()
     ensures states { StateTextsAreShort }
     ensures certificates { CertTextsAreShort }

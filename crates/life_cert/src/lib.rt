@@ -11,13 +11,17 @@ mod print;
 mod print_state;
 mod read;
 mod refusal;
+mod repeats;
 mod slimming;
+mod state_sum;
 mod state_text;
 mod unread;
+mod upgrading;
 
 pub use growth::{Arrival, Growth, StatePlace};
 pub use maker::{grown, make, round_count};
 pub use print::print_cert;
 pub use read::read_cert;
-pub use refusal::{CertCode, CertRefusal, MakeRefusal};
+pub use refusal::{CertCode, CertRefusal, MakeRefusal, UpgradeRefusal};
 pub use slimming::slim;
+pub use upgrading::upgrade;

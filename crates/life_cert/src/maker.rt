@@ -1,12 +1,12 @@
 //! The maker of certificates.
 
 ghost use Rattle.std.specs.Prelude.{◌≡◌, ◌∷◌, [], false, OnOk, IfOk};
-ghost use Rattle.life_cert.specs.Prelude.{IsModule, Certificate, AreFormed, seen_cert, ChainNeverFaults, IsTyped, round, enough, made, IsOf, seen_growth, IsCertMade, IsRefused, IsBelow};
+ghost use Rattle.life_cert.specs.Prelude.{IsModule, Accepts, Certificate, AreFormed, seen_cert, ChainNeverFaults, IsTyped, round, enough, made, IsOf, seen_growth, version_two, IsCertMade, IsRefused, IsBelow};
 
 use crate::growth::Growth;
 use crate::handing::handed_on;
 use crate::refusal::MakeRefusal;
-use life_check::{Cert, check};
+use life_check::{Cert, CertVersion, check};
 use module_code::Module;
 use std::alloc::{AllocError, Global};
 
@@ -36,6 +36,7 @@ fn round(alloc: Global, code: &Module, growth: &mut Growth) -> Result<(), AllocE
 /// The states of a module after so many rounds that none grows any more, whether it is accepted with them or not. `AllocError`: they
 /// cannot be held.
 pub fn grown(alloc: Global, code: &Module) -> Result<Cert, AllocError>
+    ensures version { IfOk result (λ c. c.version ≡ version_two code.now) }
     ensures whole { IfOk result (λ c. c.slim ≡ false) }
     ensures made { IfOk result (λ c. seen_cert c ≡ made code.now) }
     ensures proper { IsModule code.now }
@@ -47,18 +48,30 @@ pub fn grown(alloc: Global, code: &Module) -> Result<Cert, AllocError>
         }
         round(alloc, code, &mut growth)?;
     }
+    let Cert {
+        version: _,
+        slim: _,
+        idle,
+        ready,
+        at,
+    } = growth.cert;
     Ok(Cert {
+        version: CertVersion::two(code),
         slim: false,
-        ..growth.cert
+        idle,
+        ready,
+        at,
     })
 }
 
-/// Makes a certificate. The states grow from none, in rounds over all instructions at once: each hands on what it leads to, where its
+/// Makes a certificate of version 2 that gives all states. The states grow from none, in rounds over all instructions at once: each hands on what it leads to, where its
 /// state grew in the round before, and one that may have a fault hands on nothing. The certificate is accepted by `check`, and so no run of the module alone answers a fault; where it
 /// is not, the refusal is the first of `check`, which is at the lowest instruction that may have a fault. Of all certificates that `check` accepts it is the least, and a module is
 /// refused only where there is none. It takes a line for each instruction, and `NoMemory` comes where these or what is handed on cannot be held.
 pub fn make(alloc: Global, code: &Module) -> Result<Cert, MakeRefusal>
+    ensures version { IfOk result (λ c. c.version ≡ version_two code.now) }
     ensures whole { IfOk result (λ c. c.slim ≡ false) }
+    ensures accepted { IfOk result (λ c. Accepts code.now c) }
     ensures typed { IfOk result (λ c. IsTyped code.now (seen_cert c)) }
     ensures made { IsCertMade code.now result }
     ensures least { IfOk result (λ c. (other : Certificate) → AreFormed other → IsTyped code.now other → IsBelow (seen_cert c) other) }

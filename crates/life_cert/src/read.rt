@@ -1,6 +1,7 @@
 //! Certificates from their texts.
 
 ghost use Rattle.std.specs.Prelude.{◌≡◌, Bool, ◌≤◌, ◌<◌, ◌++◌, IfOk, IfErr, MatchResult, OnOk, Result, length, take, not, ◌||◌, ◌==◌, true, false};
+ghost use Rattle.life_check.specs.declared.version.CertVersion.{CertVersion};
 ghost use Rattle.life_cert.specs.Prelude.{Certificate, seen_cert, HaveSameStates, IsPrinted, IsCertText, IsReported, IsToldOf, EndTold, more_than};
 ghost use Rattle.life_cert.specs.declared.refusal.CertRefusal.TheVariants.{NoMemory};
 
@@ -36,7 +37,7 @@ fn end_lines(due: Due, number: usize, rest: &[u8], long: bool) -> Result<(), Cer
 /// What the lines of a text say, of which more follows where it is `long`.
 fn read_lines(alloc: Global, text: &[u8], long: bool) -> Result<Cert, CertRefusal>
     requires { length text.now ≤ 4194304 }
-    ensures right { IfOk result (λ c. (long ≡ false) × IsCertText text.now c.slim (seen_cert c)) }
+    ensures right { IfOk result (λ c. (long ≡ false) × IsCertText text.now c.version c.slim (seen_cert c)) }
     ensures told { IfErr result (λ e. IsToldOf long text.now e) }
 {
     let mut draft = CertDraft::new(alloc);
@@ -44,12 +45,15 @@ fn read_lines(alloc: Global, text: &[u8], long: bool) -> Result<Cert, CertRefusa
     end_lines(draft.due, last.number, &text[last.start..], long)?;
     let CertDraft {
         due: _,
+        version,
         slim,
         idle,
         ready,
         at,
+        sums: _,
     } = draft;
     Ok(Cert {
+        version,
         slim,
         idle,
         ready,
@@ -60,9 +64,9 @@ fn read_lines(alloc: Global, text: &[u8], long: bool) -> Result<Cert, CertRefusa
 /// The certificate that a text spells, or its first faulty line, from 1, with the lowest code that fits it. A text has at
 /// most 4,194,304 bytes; `NoMemory` is the answer where memory was wanting.
 pub fn read_cert(alloc: Global, text: &[u8]) -> Result<Cert, CertRefusal>
-    ensures right { IfOk result (λ c. IsCertText text.now c.slim (seen_cert c)) }
+    ensures right { IfOk result (λ c. IsCertText text.now c.version c.slim (seen_cert c)) }
     ensures told { IfErr result (λ e. IsReported text.now e) }
-    ensures again { (slim : Bool) (c : Certificate) → IsPrinted text.now slim c → MatchResult result (λ r. (r.slim ≡ slim) × HaveSameStates (seen_cert r) c) (λ e. e ≡ NoMemory) }
+    ensures again { (v : CertVersion) (slim : Bool) (c : Certificate) → IsPrinted text.now v slim c → MatchResult result (λ r. (r.version ≡ v) × (r.slim ≡ slim) × HaveSameStates (seen_cert r) c) (λ e. e ≡ NoMemory) }
 {
     if MAX_LEN < text.len() {
         read_lines(alloc, &text[..MAX_LEN], true)

@@ -4,6 +4,7 @@ ghost use Rattle.std.specs.Prelude.{◌≡◌};
 ghost use Rattle.life_cert.specs.Codes.{code_number};
 ghost use Rattle.life_cert.specs.declared.refusal.CertRefusal.TheVariants.{NoMemory};
 ghost use Rattle.life_cert.specs.declared.refusal.MakeRefusal.TheVariants as making;
+ghost use Rattle.life_cert.specs.declared.refusal.UpgradeRefusal.TheVariants as upgrading;
 
 use life_check::{CheckRefusal, Rule};
 use std::alloc::{AllocError, AllocFailed};
@@ -18,7 +19,8 @@ pub enum CertCode {
     /// A line that is unknown or not due, or one that is missing.
     #[error("a line that is not due, or a missing line")]
     NotDue,
-    /// What follows the first word is no state in its one spelling.
+    /// What follows the first word is no state in its one spelling; in version 2 also a state that an earlier numbered line writes out,
+    /// and a `same` that does not name the first line with its state.
     #[error("not a state")]
     NotState,
 }
@@ -82,6 +84,31 @@ impl From<CheckRefusal> for MakeRefusal {
 
     fn from(why: CheckRefusal) -> Self {
         MakeRefusal::At {
+            pc: why.pc,
+            rule: why.rule,
+        }
+    }
+}
+
+/// Why a certificate is not carried over to version 2.
+#[derive(Clone, Copy)]
+pub enum UpgradeRefusal {
+    /// It is of version 2.
+    Already,
+    /// It is not accepted.
+    At {
+        /// The instruction.
+        pc: usize,
+        /// What fails there.
+        rule: Rule,
+    },
+}
+
+impl From<CheckRefusal> for UpgradeRefusal {
+    ghost from_gives = { λ why e. e ≡ upgrading.At why.pc why.rule };
+
+    fn from(why: CheckRefusal) -> Self {
+        UpgradeRefusal::At {
             pc: why.pc,
             rule: why.rule,
         }

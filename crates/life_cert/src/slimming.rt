@@ -21,10 +21,11 @@ fn kept(cert: &Cert, heads: &[bool; 1025], pc: usize, code: &Module) -> Option<S
     }
 }
 
-/// The slim form of a certificate: its states between calls, and those at heads. One that is slim stays as it is. Where `check`
+/// The slim form of a certificate: its states between calls, and those at heads. One that is slim stays as it is, and the version stays. Where `check`
 /// accepts a certificate whose states are in form, it accepts its slim form. `AllocError`: it cannot be held.
 pub fn slim(alloc: Global, code: &Module, cert: &Cert) -> Result<Cert, AllocError>
     ensures slim { IfOk result (λ c. c.slim ≡ true) }
+    ensures version { IfOk result (λ c. c.version ≡ cert.now.version) }
     ensures states { IfOk result (λ c. seen_cert c ≡ slim_form code.now cert.now) }
     ensures accepted { IfOk result (λ c. AreFormed (seen_cert cert.now) → Accepts code.now cert.now → Accepts code.now c) }
 {
@@ -35,6 +36,7 @@ pub fn slim(alloc: Global, code: &Module, cert: &Cert) -> Result<Cert, AllocErro
         at.push(kept(cert, &heads, pc, code))?;
     }
     Ok(Cert {
+        version: cert.version,
         slim: true,
         idle: cert.idle,
         ready: cert.ready,

@@ -1,18 +1,23 @@
 //! States from their texts. Each part is read from the front, in the order in which the parts are written. Of the text of a
-//! state in form each part is read as it was written; of another text some state is read, and nothing is refused: `draft` then
+//! state in form each part is read as it was written; of another text some state is read, and nothing is refused: `read_state` then
 //! compares the text with that of this state.
 
-ghost use Rattle.std.specs.Prelude.{◌≡◌, ◌∷◌, ◌<◌, ◌≤◌, [], codes};
+ghost use Rattle.std.specs.Prelude.{◌≡◌, ◌∷◌, ◌<◌, ◌≤◌, [], true, codes, IfErr, IfOk};
+ghost use Rattle.life_cert.specs.Prelude.{seen_some, state_text, IsReadState};
+ghost use Rattle.life_cert.specs.declared.refusal.CertRefusal.TheVariants.{NoMemory};
 ghost use Rattle.life_cert.specs.Prelude.{seen, seen_brigade, seen_cursor, seen_homes, cursor_name, IsToldState, starts, at_pools, at_past, at_read, behind_name, classes_past, classes_read};
 ghost use Rattle.life_cert.specs.Prelude.{content_read, cursor_past, cursor_read, fact_past, fact_word, homes_past, homes_read, in_past, in_read, key, live_past, live_read, loose_past, loose_read};
 ghost use Rattle.life_cert.specs.Prelude.{number_in, own_past, own_read, place_past, place_read, pool_past, pool_read, row_past, set_past, set_read, told_brigades, told_cursors, told_facts};
 ghost use Rattle.life_cert.specs.Prelude.{told_pools, told_row, past_three, three_there, past_cursors, past_brigades, past_pools, brigades_there, pools_there};
 
+use crate::print_state::put_state;
+use crate::refusal::CertRefusal;
 use crate::unread::Unread;
-use byte_text::begins;
+use byte_text::{begins, is_text};
 use life_state::{
     BrigadeState, Classes, Contents, CursorState, HomeSet, PoolSet, PoolState, State, at_open,
 };
+use std::alloc::Global;
 
 /// Three words in turn, each of which may stand there: which do.
 fn take_three(
@@ -349,7 +354,7 @@ fn read_facts(state: &mut State, words: Unread<'_>)
 }
 
 /// The state that a text tells, where it is the text of one in form; else some state.
-pub(crate) fn told_state(text: &[u8]) -> State
+fn told_state(text: &[u8]) -> State
     ensures { IsToldState text.now (seen result) }
 {
     let mut unread = Unread { bytes: text };
@@ -366,4 +371,31 @@ pub(crate) fn told_state(text: &[u8]) -> State
     read_cursors(&mut state, &mut unread);
     read_facts(&mut state, unread);
     state
+}
+
+fn is_state_text(alloc: Global, state: &State, text: &[u8]) -> Result<bool, CertRefusal>
+    ensures right { IfOk result (λ b. b ≡ true → text.now ≡ state_text (seen state.now)) }
+    ensures whole { IfOk result (λ b. text.now ≡ state_text (seen state.now) → b ≡ true) }
+    ensures err { IfErr result (λ e. e ≡ NoMemory) }
+{
+    let mut printed = Vec::new(alloc);
+    match put_state(&mut printed, state) {
+        Ok(()) => Ok(is_text(text, printed.as_slice())),
+        Err(_) => Err(CertRefusal::NoMemory),
+    }
+}
+
+/// The state that is written so, if it is one.
+pub(crate) fn read_state(alloc: Global, text: &[u8]) -> Result<Option<State>, CertRefusal>
+    ensures right { IfOk result (λ o. IsReadState text.now (seen_some o)) }
+    ensures err { IfErr result (λ e. e ≡ NoMemory) }
+{
+    let state = told_state(text);
+    let is_formed = state.is_formed();
+    let is_written = is_state_text(alloc, &state, text)?;
+    if is_formed & is_written {
+        Ok(Some(state))
+    } else {
+        Ok(None)
+    }
 }

@@ -18,7 +18,8 @@ use Rattle.life_check.specs.declared.refusal.CheckRefusal.{CheckRefusal}
 use Rattle.life_check.specs.declared.refusal.Rule.TheVariants.{Shape, Request}
 use Rattle.life_check.specs.Certificates.{Certificate, IsBoundedSome, AllBounded, AreFormed}
 use Rattle.life_check.specs.Seen.{seen_line, seen_cert}
-use Rattle.life_check.specs.Slim.{is_head, at_heads, next_of, handed_next, completion, meant, is_slim_shape, cert_refusal, Accepts, EndsWithLines}
+use Rattle.life_check.specs.Versions.{names_shape}
+use Rattle.life_check.specs.Slim.{is_head, at_heads, next_of, handed_next, completion, meant, is_slim_shape, states_refusal, cert_refusal, Accepts, EndsWithLines}
 use Rattle.life_check.specs.Typed.{flows, leads_on, declares, has_in, fits_line, has_shape, refusal, unless, or_else, line_refusal, refusal_at, entry_refusal, first_below, requests, first_refusal}
 use Rattle.life_check.specs.Typed.{IsAnswer}
 use Rattle.life_check.proofs.Completed.{declared, head_full, next_full, each_fits, given, full_formed, completion_shaped, completion_formed}
@@ -111,13 +112,13 @@ slim_shape p c shape heads = of c.slim (has_shape p (seen_cert c)) (at_heads p (
     of true false y e h = cc
 
 pub refused_as_meant : (p : Program) (c : Cert) (r : Result (Unit {0}) CheckRefusal) → has_shape p (seen_cert c) ≡ true → (c.slim ≡ true → at_heads p (seen_cert c) ≡ true)
-    → IsAnswer (first_refusal p (meant p c)) r → IsAnswer (cert_refusal p c) r
+    → IsAnswer (first_refusal p (meant p c)) r → IsAnswer (states_refusal p c) r
 refused_as_meant p c r shape heads h =
     subst (λ (o : Option CheckRefusal). IsAnswer o r)
     (sym (after_none (unless (is_slim_shape p c) 0 Shape) (first_refusal p (meant p c)) (unless_holds (is_slim_shape p c) 0 Shape (slim_shape p c shape heads)))) h
 
 -- a state that is given where it may not stand
-pub refused_by_heads : (p : Program) (c : Cert) → c.slim ≡ true → at_heads p (seen_cert c) ≡ false → cert_refusal p c ≡ Some (refusal 0 Shape)
+pub refused_by_heads : (p : Program) (c : Cert) → c.slim ≡ true → at_heads p (seen_cert c) ≡ false → states_refusal p c ≡ Some (refusal 0 Shape)
 refused_by_heads p c s h =
     ap (λ (b : Bool). or_else (unless b 0 Shape) (first_refusal p (meant p c))) (of c.slim (has_shape p (seen_cert c)) (at_heads p (seen_cert c)) s h)
   where
@@ -126,7 +127,7 @@ refused_by_heads p c s h =
     of true false y e h = refl
     of false x y e h = cc
 
-pub refused_by_shape : (p : Program) (c : Cert) → has_shape p (seen_cert c) ≡ false → cert_refusal p c ≡ Some (refusal 0 Shape)
+pub refused_by_shape : (p : Program) (c : Cert) → has_shape p (seen_cert c) ≡ false → states_refusal p c ≡ Some (refusal 0 Shape)
 unfolding first_refusal
 refused_by_shape p c h = by c.slim refl
   where
@@ -134,7 +135,7 @@ refused_by_shape p c h = by c.slim refl
     of true y e = cc
     of false y e = refl
 
-    by : (s : Bool) → c.slim ≡ s → cert_refusal p c ≡ Some (refusal 0 Shape)
+    by : (s : Bool) → c.slim ≡ s → states_refusal p c ≡ Some (refusal 0 Shape)
     by true e =
         ap (λ (b : Bool). or_else (unless b 0 Shape) (first_refusal p (meant p c)))
         (ap (λ (b : Bool). not b || (has_shape p (seen_cert c) && at_heads p (seen_cert c))) e ∙ of (has_shape p (seen_cert c)) (at_heads p (seen_cert c)) h)
@@ -147,16 +148,23 @@ refused_by_shape p c h = by c.slim refl
 
 pub accepts_of : (p : Program) (c : Cert) → cert_refusal p c ≡ None → Accepts p c
 accepts_of p c h =
-    let both = or_none (unless (is_slim_shape p c) 0 Shape) (first_refusal p (meant p c)) h in
-    record { given = unless_none (is_slim_shape p c) 0 Shape (both.0); typed = typed_of p (meant p c) (both.1) }
+    let named = or_none (unless (names_shape p c.version) 0 Shape) (states_refusal p c) h in
+    let both = or_none (unless (is_slim_shape p c) 0 Shape) (first_refusal p (meant p c)) (named.1) in
+    record { named = unless_none (names_shape p c.version) 0 Shape (named.0); given = unless_none (is_slim_shape p c) 0 Shape (both.0); typed = typed_of p (meant p c) (both.1) }
 
 pub none_accepts : (p : Program) (c : Cert) → Accepts p c → cert_refusal p c ≡ None
-none_accepts p c a = none_or (unless (is_slim_shape p c) 0 Shape) (first_refusal p (meant p c)) (unless_holds (is_slim_shape p c) 0 Shape a.given) (none_typed p (meant p c) a.typed)
+none_accepts p c a = none_or (unless (names_shape p c.version) 0 Shape) (states_refusal p c) (unless_holds (names_shape p c.version) 0 Shape a.named)
+    (none_or (unless (is_slim_shape p c) 0 Shape) (first_refusal p (meant p c)) (unless_holds (is_slim_shape p c) 0 Shape a.given) (none_typed p (meant p c) a.typed))
+
+-- where the shape that is named is the module's, the first refusal is that of the states
+pub named_refusal : (p : Program) (c : Cert) → names_shape p c.version ≡ true → cert_refusal p c ≡ states_refusal p c
+named_refusal p c h = ap (λ (b : Bool). or_else (unless b 0 Shape) (states_refusal p c)) h
 
 -- of a certificate that gives all states the first refusal is that of these
-pub whole_refusal : (p : Program) (c : Cert) → c.slim ≡ false → cert_refusal p c ≡ first_refusal p (seen_cert c)
-whole_refusal p c w =
-    ap (λ (b : Bool). or_else (unless (not b || (has_shape p (seen_cert c) && at_heads p (seen_cert c))) 0 Shape) (first_refusal p (if b then completion p (seen_cert c) else seen_cert c))) w
+pub whole_refusal : (p : Program) (c : Cert) → names_shape p c.version ≡ true → c.slim ≡ false → cert_refusal p c ≡ first_refusal p (seen_cert c)
+whole_refusal p c named w =
+    named_refusal p c named
+    ∙ ap (λ (b : Bool). or_else (unless (not b || (has_shape p (seen_cert c) && at_heads p (seen_cert c))) 0 Shape) (first_refusal p (if b then completion p (seen_cert c) else seen_cert c))) w
 
 apart : (r : CheckRefusal) → None ≡ Some r → ⊥
 apart r h = cc

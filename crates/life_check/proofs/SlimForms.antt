@@ -7,6 +7,7 @@ use Rattle.life_state.proofs.Tests.{and2}
 use Rattle.life_check.specs.declared.cert.Cert.{Cert}
 use Rattle.life_check.specs.Certificates.{Certificate, AreFormed}
 use Rattle.life_check.specs.Seen.{seen_cert}
+use Rattle.life_check.specs.Versions.{names_shape}
 use Rattle.life_check.specs.Slim.{is_head, at_heads, completion, slim_of, slim_form, Accepts}
 use Rattle.life_check.specs.Typed.{has_shape, IsTyped}
 use Rattle.life_check.proofs.Meant.{ends_with_lines, slim_means, whole_means}
@@ -19,8 +20,8 @@ slim_at_heads p c = all_below_holds c.lines (λ pc. is_head p pc || not (is_some
     of true o = refl
     of false o = refl
 
-pub slim_accepts : (p : Program) (c d : Cert) → IsModule p → AreFormed (seen_cert c) → d.slim ≡ true → seen_cert d ≡ slim_form p c → Accepts p c → Accepts p d
-slim_accepts p c d m formed slim is a = by c.slim refl
+pub slim_accepts : (p : Program) (c d : Cert) → IsModule p → AreFormed (seen_cert c) → d.version ≡ c.version → d.slim ≡ true → seen_cert d ≡ slim_form p c → Accepts p c → Accepts p d
+slim_accepts p c d m formed version slim is a = by c.slim refl
   where
     shape : Bool → Certificate → Bool
     shape b x = not b || (has_shape p x && at_heads p x)
@@ -32,6 +33,7 @@ slim_accepts p c d m formed slim is a = by c.slim refl
     by true w =
         let same : seen_cert d ≡ seen_cert c = is ∙ ap form_of w in
         record {
+          named = ap (names_shape p) version ∙ a.named;
           given = ap₂ shape (slim ∙ sym w) same ∙ a.given;
           typed = subst (IsTyped p) (sym (slim_means p d slim ∙ (ap (completion p) same ∙ sym (slim_means p c w)))) a.typed;
         }
@@ -39,6 +41,7 @@ slim_accepts p c d m formed slim is a = by c.slim refl
         let same : seen_cert d ≡ slim_of p (seen_cert c) = is ∙ ap form_of w in
         let whole : IsTyped p (seen_cert c) = subst (IsTyped p) (whole_means p c w) a.typed in
         record {
+          named = ap (names_shape p) version ∙ a.named;
           given = ap₂ shape slim same
               ∙ and2 (has_shape p (slim_of p (seen_cert c))) (at_heads p (slim_of p (seen_cert c))) (slim_shaped p (seen_cert c) m formed (ends_with_lines c) whole) (slim_at_heads p (seen_cert c));
           typed = subst (IsTyped p) (sym (slim_means p d slim ∙ ap (completion p) same)) (slim_is_typed p (seen_cert c) m formed (ends_with_lines c) whole);

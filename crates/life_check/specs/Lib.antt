@@ -2,6 +2,7 @@ pub use Rattle.module_code.specs.Program
 pub use Rattle.life_state.specs.Rules
 pub mod Certificates
 pub mod Seen
+pub mod Versions
 pub mod Typed
 pub mod Slim
 pub mod Examples

@@ -14,6 +14,7 @@ use Rattle.life_check.specs.declared.refusal.CheckRefusal.{CheckRefusal}
 use Rattle.life_check.specs.declared.refusal.Rule.TheVariants.{Shape}
 use Rattle.life_check.specs.Certificates.{Certificate, AreFormed}
 use Rattle.life_check.specs.Seen.{seen_cert}
+use Rattle.life_check.specs.Versions.{names_shape}
 use Rattle.life_check.specs.Typed.{has_shape, unless, or_else, first_refusal, IsTyped}
 
 -- Heads.
@@ -68,11 +69,16 @@ at_heads p c = all_below c.lines (λ pc. is_head p pc || not (is_some (c.at pc))
 abbrev pub is_slim_shape : Program → Cert → Bool
 is_slim_shape p c = not c.slim || (has_shape p (seen_cert c) && at_heads p (seen_cert c))
 
--- the first refusal: of what is given, and then of what is meant
+-- the first refusal of its states: of what is given, and then of what is meant
+abbrev pub states_refusal : Program → Cert → Option CheckRefusal
+states_refusal p c = or_else (unless (is_slim_shape p c) 0 Shape) (first_refusal p (meant p c))
+
+-- the first refusal: by the shape that version 2 names, and then of the states
 abbrev pub cert_refusal : Program → Cert → Option CheckRefusal
-cert_refusal p c = or_else (unless (is_slim_shape p c) 0 Shape) (first_refusal p (meant p c))
+cert_refusal p c = or_else (unless (names_shape p c.version) 0 Shape) (states_refusal p c)
 
 pub record Accepts (p : Program) (c : Cert) : Type 0 where
+  pub named : names_shape p c.version ≡ true
   pub given : is_slim_shape p c ≡ true
   pub typed : IsTyped p (meant p c)
 

@@ -1,14 +1,14 @@
 //! The check of a certificate.
 
 ghost use Rattle.std.specs.Prelude.{◌≤◌, ◌≡◌, ◌↔◌, ◌∷◌, [], true, length, IsOk};
-ghost use Rattle.life_check.specs.Prelude.{IsModule, InstancesAreSafe, seen_cert, AllBounded, AreFormed, ChainNeverFaults, meant, cert_refusal, Accepts, AreHeads, has_shape, entry_refusal};
+ghost use Rattle.life_check.specs.Prelude.{IsModule, InstancesAreSafe, seen_cert, AllBounded, AreFormed, ChainNeverFaults, meant, cert_refusal, states_refusal, names_shape, Accepts, AreHeads, has_shape, entry_refusal};
 ghost use Rattle.life_check.specs.Prelude.{first_refusal, IsAnswer};
 
 use crate::cert::Cert;
 use crate::entries::{inits, opens, requests, serves};
 use crate::lines::{check_lines, unless};
 use crate::refusal::{CheckRefusal, Rule};
-use crate::shape::{at_heads, has_shape};
+use crate::shape::{at_heads, has_shape, names_shape};
 use crate::slim::heads;
 use module_code::Module;
 
@@ -35,8 +35,9 @@ fn check_meant(code: &Module, cert: &Cert, heads: &[bool; 1025]) -> Result<(), C
     unless(requests(code, cert), 0, Rule::Request)
 }
 
-pub(crate) fn check_all(code: &Module, cert: &Cert) -> Result<(), CheckRefusal>
-    ensures first { IsAnswer (cert_refusal code.now cert.now) result }
+/// The first refusal of the states.
+fn check_states(code: &Module, cert: &Cert) -> Result<(), CheckRefusal>
+    ensures first { IsAnswer (states_refusal code.now cert.now) result }
     ensures bounded { IsOk result → AllBounded (meant code.now cert.now) }
     ensures formed { IsOk result → AreFormed (meant code.now cert.now) }
     ensures proper { IsOk result → IsModule code.now }
@@ -47,8 +48,18 @@ pub(crate) fn check_all(code: &Module, cert: &Cert) -> Result<(), CheckRefusal>
     check_meant(code, cert, &heads)
 }
 
+pub(crate) fn check_all(code: &Module, cert: &Cert) -> Result<(), CheckRefusal>
+    ensures first { IsAnswer (cert_refusal code.now cert.now) result }
+    ensures bounded { IsOk result → AllBounded (meant code.now cert.now) }
+    ensures formed { IsOk result → AreFormed (meant code.now cert.now) }
+    ensures proper { IsOk result → IsModule code.now }
+{
+    unless(names_shape(code, cert.version), 0, Rule::Shape)?;
+    check_states(code, cert)
+}
+
 /// Whether the states of a certificate follow from one another by the rules, so that no instruction has a fault: Ok exactly where
-/// no rule refuses, and then each state is in form. Else the first refusal: by the shape of the states; where a handler begins; at the
+/// no rule refuses, and then each state is in form. Else the first refusal: by the shape that version 2 names, where it is not that of the module; by the shape of the states; where a handler begins; at the
 /// lowest instruction with a state by a fault that it may have, by where it leads, or by what it leaves where it returns; at the end of
 /// the request. Of a slim certificate the shape is that of the states that are given, which stand at heads alone; all else is asked of
 /// what it means. It takes no memory. No run of a chain that is this module alone answers a fault, on however many connections, and whatever is found

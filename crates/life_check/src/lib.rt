@@ -10,6 +10,7 @@ mod lines;
 mod refusal;
 mod shape;
 mod slim;
+mod version;
 
 pub use cert::Cert;
 pub use chain::{CheckedChain, accept_chain};
@@ -19,3 +20,4 @@ pub use module_code::Module;
 pub use refusal::{ChainRefusal, CheckRefusal, Rule};
 pub use run_model::FaultKind;
 pub use slim::heads;
+pub use version::CertVersion;

@@ -2,9 +2,10 @@
 
 ghost use Rattle.std.specs.Prelude.{◌≡◌, ℕ, ◌||◌, ◌<◌, length, true, nat_le, not, if◌then◌else◌, is_some, IfSome};
 ghost use Rattle.life_check.specs.Prelude.{IsFormed, seen, seen_some, seen_cert, AreFormed, declares, has_in, has_no_cursor, fits_between, fits_line, fits_lines, has_shape};
-ghost use Rattle.life_check.specs.Prelude.{is_head, at_heads, AreHeads};
+ghost use Rattle.life_check.specs.Prelude.{is_head, at_heads, names_shape, AreHeads};
 
 use crate::cert::Cert;
+use crate::version::CertVersion;
 use life_state::State;
 use module_code::Module;
 
@@ -81,6 +82,24 @@ fn fits_lines(code: &Module, cert: &Cert) -> bool
         }
     }
     true
+}
+
+/// Whether the shape that version 2 names is the module's.
+pub(crate) fn names_shape(code: &Module, version: CertVersion) -> bool
+    ensures { result ≡ names_shape code.now version }
+{
+    match version {
+        CertVersion::One => true,
+        CertVersion::Two {
+            pools,
+            brigades,
+            code: len,
+        } => {
+            (pools == code.pool_count())
+                & (brigades == code.brigade_count())
+                & (usize::from(len) == code.len())
+        }
+    }
 }
 
 pub(crate) fn has_shape(code: &Module, cert: &Cert) -> bool

@@ -3,7 +3,7 @@
 use crate::flow::{FlowEdges, add_edges_of, state_at};
 use crate::told::{handler_name, put_at};
 use life_cert::StatePlace;
-use life_check::{Cert, CheckRefusal, Rule};
+use life_check::{Cert, CertVersion, CheckRefusal, Rule};
 use life_state::{State, at_open, leq};
 use line_help::{ModuleText, Page, Topic, put_known};
 use module_code::Module;
@@ -124,6 +124,43 @@ fn put_entry(told: &mut Page, source: &ModuleText, code: &Module, cert: &Cert, p
     }
 }
 
+// Tells that a certificate is of another module; whether its lines `vars` and `code` say so.
+fn put_other_numbers(told: &mut Page, code: &Module, version: CertVersion) -> bool {
+    let CertVersion::Two {
+        pools,
+        brigades,
+        code: count,
+    } = version
+    else {
+        return false;
+    };
+    let (p, b, n) = (code.pool_count(), code.brigade_count(), code.len());
+    if pools == p && brigades == b && usize::from(count) == n {
+        return false;
+    }
+    told.full |= write!(
+        told.text,
+        "the certificate is of another module: it says `vars {pools} {brigades}` and `code {count}`, and this module has `vars {p} {b}` and `code {n}`\n"
+    )
+    .is_err();
+    true
+}
+
+// Tells how a certificate is not of the shape of its module.
+fn put_shape(told: &mut Page, code: &Module, cert: &Cert) {
+    if put_other_numbers(told, code, cert.version) {
+        return;
+    }
+    told.push(
+        "the states of the certificate are not of this module: other variables, `in` elsewhere than in `main`, a cursor between calls, or a line for no instruction\n",
+    );
+    if cert.slim {
+        told.push(
+            "  a slim certificate has lines only for the first instruction of each handler and for targets\n",
+        );
+    }
+}
+
 /// Tells what a certificate says against its module.
 pub fn put_certificate(
     told: &mut Page,
@@ -134,16 +171,7 @@ pub fn put_certificate(
 ) {
     let pc = refusal.pc;
     match refusal.rule {
-        Rule::Shape => {
-            told.push(
-                "the states of the certificate are not of this module: other variables, `in` elsewhere than in `main`, a cursor between calls, or a line for no instruction\n",
-            );
-            if cert.slim {
-                told.push(
-                    "  a slim certificate has lines only for the first instruction of each handler and for targets\n",
-                );
-            }
-        }
+        Rule::Shape => put_shape(told, code, cert),
         Rule::Request => {
             told.push("the end of a request leaves what `idle` does not allow\n");
             put_from(told, source, code, cert, StatePlace::Ready);

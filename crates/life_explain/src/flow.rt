@@ -5,7 +5,7 @@ ghost use Rattle.module_code.specs.Program.{fits};
 
 use crate::needs::doubt_of;
 use life_cert::{Arrival, Growth, StatePlace, round_count};
-use life_check::{Cert, heads};
+use life_check::{Cert, CertVersion, heads};
 use life_state::{State, Successors, after, at_end_of_request, at_main, at_return};
 use line_help::{Doubt, Page};
 use module_code::{Instr, Module, PoolRef};
@@ -102,6 +102,7 @@ pub fn meant(alloc: Global, code: &Module, cert: &Cert) -> Result<Cert, AllocErr
         };
     }
     Ok(Cert {
+        version: CertVersion::One,
         slim: false,
         idle: cert.idle,
         ready: cert.ready,

@@ -4,7 +4,7 @@ use crate::certificate::put_certificate;
 use crate::flow::meant;
 use crate::session::tell_refusals;
 use life_cert::{CertRefusal, MakeRefusal, grown, make, read_cert};
-use life_check::{Cert, CheckRefusal, Rule, check};
+use life_check::{Cert, CertVersion, CheckRefusal, Rule, check};
 use line_help::{ModuleText, Page, ScriptText, tell_asm_fault, tell_cert_fault};
 use module_code::Module;
 use module_lang::{AsmRefusal, assemble};
@@ -125,31 +125,47 @@ fn tell_states(
     put_certificate(told, &source, code, cert, refusal);
 }
 
+// Why a certificate of a module is not upgraded.
+fn tell_upgrade(told: &mut Page, text: ScriptText<'_>, code: &Module, cert: &Cert) {
+    match cert.version {
+        CertVersion::One => tell_against(told, text, code, cert),
+        CertVersion::Two { .. } => told.push(
+            "it is of version 2, which is not upgraded; `check` says whether the module is accepted with it\n",
+        ),
+    }
+}
+
+// A text that stands in a file of its own.
+fn alone(text: &[u8], is_cert: bool) -> ScriptText<'_> {
+    ScriptText {
+        is_cert,
+        before: 0,
+        text,
+    }
+}
+
 /// Why no certificate of a module text is made, in words; nothing where one is made.
 pub fn explain_certify(alloc: Global, text: &[u8]) -> Result<String, AllocError> {
     let mut told = Page::new(alloc);
-    let text = ScriptText {
-        is_cert: false,
-        before: 0,
-        text,
-    };
-    tell_texts(&mut told, text, None);
+    tell_texts(&mut told, alone(text, false), None);
     told.finished()
 }
 
 /// Why a module text is refused with a certificate text, in words; nothing where it is accepted.
 pub fn explain_check(alloc: Global, text: &[u8], cert: &[u8]) -> Result<String, AllocError> {
     let mut told = Page::new(alloc);
-    let text = ScriptText {
-        is_cert: false,
-        before: 0,
-        text,
-    };
-    let cert = ScriptText {
-        is_cert: true,
-        before: 0,
-        text: cert,
-    };
-    tell_texts(&mut told, text, Some(cert));
+    tell_texts(&mut told, alone(text, false), Some(alone(cert, true)));
+    told.finished()
+}
+
+/// Why a certificate text of a module text is not upgraded, in words; nothing where it is.
+pub fn explain_upgrade(alloc: Global, text: &[u8], cert: &[u8]) -> Result<String, AllocError> {
+    let mut told = Page::new(alloc);
+    let text = alone(text, false);
+    if let Some(code) = module_of(&mut told, text) {
+        if let Some(given) = cert_of(&mut told, alone(cert, true)) {
+            tell_upgrade(&mut told, text, &code, &given);
+        }
+    }
     told.finished()
 }

@@ -13,6 +13,6 @@ mod session;
 mod told;
 mod trail;
 
-pub use help::{explain_certify, explain_check};
+pub use help::{explain_certify, explain_check, explain_upgrade};
 pub use play::explain_play;
 pub use script_text::fault_name;

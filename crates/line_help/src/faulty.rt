@@ -5,7 +5,7 @@ use crate::page::Page;
 use crate::script::{Script, ScriptLine, ScriptText, lines_of};
 use crate::words::{found_in, last_word, text_of, word};
 use byte_text::{
-    all_printable, begins, decimal_u64, is_printable, is_text, tail, token, unindented,
+    after_token, all_printable, begins, decimal_u64, is_printable, is_text, tail, token, unindented,
 };
 use life_cert::CertCode;
 use module_code::{Op, Word, word_of};
@@ -45,6 +45,14 @@ const MISPLACED: [(&str, &str); 4] = [
         "  `checked` stands once, alone, between the texts and the commands\n",
     ),
 ];
+
+// Which lines a certificate text has.
+const CERT_LINES: &str = concat!(
+    "  its lines are `cert 2 full` or `cert 2 slim`, `vars P B` with how many pools and brigades the module declares, 0 to 8 each, ",
+    "`code N` with how many instructions it has, 1 to 1024, `idle`, `ready`, one of each instruction that is reached, by rising ",
+    "numbers, and `end`; in version 1 `cert 1` or `slim 1` stands in place of the first three. No empty lines, no comments, no ",
+    "spaces in front\n"
+);
 
 /// The front of a line, as it is shown.
 pub fn shown(line: &[u8]) -> &[u8] {
@@ -279,6 +287,7 @@ fn tell_asm_line<'a>(
 /// Tells what is wrong with the first faulty line of a certificate text, by its number in the text.
 pub fn tell_cert_fault(told: &mut Page, text: ScriptText<'_>, line: usize, code: CertCode) {
     let lines = lines_of(told, text.text, text.before);
+    let lines = lines.as_slice();
     let there = lines.get(line.saturating_sub(1)).copied();
     let number = text.before.saturating_add(line);
     let of = if text.before == 0 {
@@ -286,16 +295,6 @@ pub fn tell_cert_fault(told: &mut Page, text: ScriptText<'_>, line: usize, code:
     } else {
         ""
     };
-    tell_cert_line(told, there, number, of, code);
-}
-
-fn tell_cert_line(
-    told: &mut Page,
-    there: Option<ScriptLine<'_>>,
-    number: usize,
-    of: &str,
-    code: CertCode,
-) {
     let shown = match there {
         Some(line) => Some(line.text),
         None => None,
@@ -304,12 +303,37 @@ fn tell_cert_line(
     told.full |= writeln!(told.text, "{code}").is_err();
     match (code, there) {
         (CertCode::BadByte, Some(there)) => tell_bad_byte(told, &there, "4,194,304"),
-        (CertCode::NotState, _) => told.push(
-            "  a state has one spelling, the one that `certify` prints\n",
+        (CertCode::NotState, Some(there)) => {
+            let above = lines.get(..line.saturating_sub(1)).unwrap_or(&[]);
+            tell_state(told, above, there.text);
+        }
+        _ => told.push(CERT_LINES),
+    }
+}
+
+// The number of the first line that says of an instruction what this line says of another.
+fn first_with<'a>(above: &[ScriptLine<'a>], text: &[u8]) -> Option<&'a [u8]> {
+    for line in above {
+        let of_instruction = decimal_u64(token(line.text)).is_some();
+        if of_instruction && after_token(line.text) == after_token(text) {
+            return Some(token(line.text));
+        }
+    }
+    None
+}
+
+// What is wrong with what follows the first word of a line of a certificate, below these lines.
+fn tell_state(told: &mut Page, above: &[ScriptLine<'_>], text: &[u8]) {
+    match first_with(above, text) {
+        _ if is_text(word(text, 1), b"same") => told.push(
+            "  `N same M` stands for the state of instruction M, the first with that state: its line stands above, and writes the state out\n",
         ),
-        _ => told.push(
-            "  its lines are `cert 1` or `slim 1`, `idle`, `ready`, one of each instruction that is reached, by rising numbers, and `end`; no empty lines, no comments, no spaces in front\n",
+        Some(first) => told.put_line(
+            "  in version 2 it is `same @`: the line of instruction @ has that state already\n",
+            0,
+            first,
         ),
+        None => told.push("  a state has one spelling, the one that `certify` prints\n"),
     }
 }
 

@@ -8,11 +8,12 @@ use Rattle.life_check.specs.declared.cert.Cert.{Cert}
 use Rattle.life_cert.specs.Reading.{IsCertText, IsReported}
 use Rattle.life_cert.specs.declared.refusal.CertRefusal.{CertRefusal}
 use Rattle.module_tools.specs.declared.answer.CommandOutput.{CommandOutput}
+use Rattle.module_tools.specs.declared.cert_answer.CertTask.{CertTask}
 use Rattle.module_tools.specs.declared.ended.Ended.{Ended}
 use Rattle.module_tools.specs.declared.fault.PlayFault.{PlayFault}
 use Rattle.module_tools.specs.declared.fault.PlayFault.TheVariants as fault
 use Rattle.module_tools.specs.Streams.{Writes, WritesText}
-use Rattle.module_tools.specs.TextAnswers.{IsVerdict, IsCheckOf, IsOutputFront, TellsCertFault}
+use Rattle.module_tools.specs.TextAnswers.{IsAnswerFor, IsAnswerWith, IsOutputFront, TellsCertFault}
 
 front_of : (P : List ℕ → Ended → Type 0) (out : List ℕ) (e : Ended) (n : ℕ) → P out e → IsOutputFront P (take n out)
 front_of P out e n is =
@@ -74,13 +75,13 @@ of_any P None all = tt
 of_any P (Some xs) all = all xs
 
 -- The fault of a certificate text is what is answered of it and any module.
-pub tells_cert_fault : {E : Type 0} (q : Result CommandOutput E) (text : List ℕ) (p : Program) (r : CertRefusal) → IsReported text r → IfOk q (λ a. TellsCertFault r a.text.items a.ended)
-    → IfOk q (λ a. IsCheckOf text p a.text.items a.ended)
-tells_cert_fault (Ok a) text p r told tells = inr (r, told, tells)
-tells_cert_fault (Err e) text p r told tells = tt
+pub tells_cert_fault : {E : Type 0} (task : CertTask) (q : Result CommandOutput E) (text : List ℕ) (p : Program) (r : CertRefusal) → IsReported text r
+    → IfOk q (λ a. TellsCertFault r a.text.items a.ended) → IfOk q (λ a. IsAnswerWith task text p a.text.items a.ended)
+tells_cert_fault task (Ok a) text p r told tells = inr (r, told, tells)
+tells_cert_fault task (Err e) text p r told tells = tt
 
--- The verdict on a certificate text is what is answered of it.
-pub tells_verdict : {E : Type 0} (q : Result CommandOutput E) (text : List ℕ) (p : Program) (c : Cert) → IsCertText text c.slim (seen_cert c) → IfOk q (λ a. IsVerdict p c a.text.items a.ended)
-    → IfOk q (λ a. IsCheckOf text p a.text.items a.ended)
-tells_verdict (Ok a) text p c is tells = inl (c, is, tells)
-tells_verdict (Err e) text p c is tells = tt
+-- What is answered of a certificate is what is answered of its text.
+pub tells_answer : {E : Type 0} (task : CertTask) (q : Result CommandOutput E) (text : List ℕ) (p : Program) (c : Cert) → IsCertText text c.version c.slim (seen_cert c)
+    → IfOk q (λ a. IsAnswerFor task p c a.text.items a.ended) → IfOk q (λ a. IsAnswerWith task text p a.text.items a.ended)
+tells_answer task (Ok a) text p c is tells = inl (c, is, tells)
+tells_answer task (Err e) text p c is tells = tt

@@ -15,7 +15,7 @@ use Rattle.module_tools.specs.TextAnswers.{TellsAsmFault, TellsCertFault}
 -- a module, and a certificate text: the certificate, or the line of its first fault
 abbrev pub IsLoadedWith : List ℕ → Program → Loaded → Type 0
 IsLoadedWith certificate p (loaded.Part x) =
-    (c : Cert) × IsCertText certificate c.slim (seen_cert c) × (seen_part x ≡ record { code = p; cert = Some c })
+    (c : Cert) × IsCertText certificate c.version c.slim (seen_cert c) × (seen_part x ≡ record { code = p; cert = Some c })
 IsLoadedWith certificate p (loaded.Told a) = (r : CertRefusal) × IsReported certificate r × TellsCertFault r a.text.items a.ended
 
 abbrev pub IsLoadedOf : List ℕ → Result Program AsmRefusal → Loaded → Type 0

@@ -1,5 +1,5 @@
 -- What the commands answer that are given texts.
-use Rattle.std.specs.Prelude.{◌≡◌, ℕ, Bool, true, false, List, ◌++◌, ◌⊎◌, Some, Result, Ok, Err}
+use Rattle.std.specs.Prelude.{◌≡◌, ℕ, Bool, true, false, List, ◌++◌, ◌⊎◌, codes, Some, Result, Ok, Err}
 use Rattle.module_code.specs.Program.{Program}
 use Rattle.module_lang.specs.Codes.{code_number}
 use Rattle.module_lang.specs.FirstFault.{IsReadAs}
@@ -10,7 +10,10 @@ use Rattle.life_check.specs.declared.refusal.CheckRefusal.{CheckRefusal}
 use Rattle.life_check.specs.Certificates.{Certificate}
 use Rattle.life_check.specs.Seen.{seen_cert}
 use Rattle.life_check.specs.Slim.{slim_of, cert_refusal, Accepts}
+use Rattle.life_check.specs.Versions.{version_two}
 use Rattle.life_check.specs.declared.cert.Cert.{Cert}
+use Rattle.life_check.specs.declared.version.CertVersion.{CertVersion}
+use Rattle.life_check.specs.declared.version.CertVersion.TheVariants as version
 use Rattle.life_check.specs.Typed.{IsTyped, first_refusal}
 use Rattle.life_cert.specs.CertText.{cert_text}
 use Rattle.life_cert.specs.Rounds.{made}
@@ -18,9 +21,11 @@ use Rattle.life_cert.specs.Codes.{code_number as cert_code}
 use Rattle.life_cert.specs.Reading.{IsCertText, IsReported}
 use Rattle.life_cert.specs.declared.refusal.CertRefusal.{CertRefusal}
 use Rattle.life_cert.specs.declared.refusal.CertRefusal.TheVariants as cert
+use Rattle.module_tools.specs.declared.cert_answer.CertTask.{CertTask}
+use Rattle.module_tools.specs.declared.cert_answer.CertTask.TheVariants as task
 use Rattle.module_tools.specs.declared.ended.Ended.{Ended}
 use Rattle.module_tools.specs.declared.ended.Ended.TheVariants as ended
-use Rattle.script_text.specs.Replies.{asm_line}
+use Rattle.script_text.specs.Replies.{asm_line, line}
 use Rattle.script_text.specs.Refusals.{cert_line, refused_at_line, accepted_line}
 
 -- the text is written, and the command is refused or done
@@ -65,18 +70,38 @@ made_form true p = slim_of p (made p)
 -- the certificate of the rounds, which the module is typed with, or what it is first refused for
 abbrev pub IsCertification : Bool → Program → OutputSpec
 IsCertification slim p out e =
-    (IsTyped p (made p) × (out ≡ cert_text slim (made_form slim p)) × (e ≡ ended.Done))
+    (IsTyped p (made p) × (out ≡ cert_text (version_two p) slim (made_form slim p)) × (e ≡ ended.Done))
     ⊎ ((r : CheckRefusal) × (first_refusal p (made p) ≡ Some r) × TellsRefusal r out e)
 
 -- what `certify` answers to a text
 abbrev pub IsCertified : Bool → List ℕ → OutputSpec
 IsCertified slim text out e = IsOutputFor (IsCertification slim) text out e
 
+-- this text, where the module is accepted with a certificate, or the first refusal
+abbrev pub IsAcceptedAs : List ℕ → Program → Cert → OutputSpec
+IsAcceptedAs text p c out e =
+    (Accepts p c × (out ≡ text) × (e ≡ ended.Done))
+    ⊎ ((r : CheckRefusal) × (cert_refusal p c ≡ Some r) × TellsRefusal r out e)
+
 -- whether the module is accepted with a certificate, or the first refusal
 abbrev pub IsVerdict : Program → Cert → OutputSpec
-IsVerdict p c out e =
-    (Accepts p c × (out ≡ accepted_line) × (e ≡ ended.Done))
-    ⊎ ((r : CheckRefusal) × (cert_refusal p c ≡ Some r) × TellsRefusal r out e)
+IsVerdict p c out e = IsAcceptedAs accepted_line p c out e
+
+abbrev pub already_line : List ℕ
+already_line = line (codes "already version 2")
+
+-- The same states in version 2, where a certificate of version 1 is accepted, or the first refusal. One of version 2 is told to be so.
+abbrev pub IsUpgradeFrom : CertVersion → Program → Cert → OutputSpec
+IsUpgradeFrom version.One p c out e = IsAcceptedAs (cert_text (version_two p) c.slim (seen_cert c)) p c out e
+IsUpgradeFrom (version.Two pools brigades code) p c out e = (out ≡ already_line) × (e ≡ ended.Refused)
+
+abbrev pub IsUpgrade : Program → Cert → OutputSpec
+IsUpgrade p c out e = IsUpgradeFrom c.version p c out e
+
+-- what is answered of a module and a certificate
+abbrev pub IsAnswerFor : CertTask → Program → Cert → OutputSpec
+IsAnswerFor task.Check p c out e = IsVerdict p c out e
+IsAnswerFor task.Upgrade p c out e = IsUpgrade p c out e
 
 -- the first fault of a certificate text
 abbrev pub TellsCertFault : CertRefusal → OutputSpec
@@ -84,11 +109,19 @@ TellsCertFault (cert.Fault n c) out e = (out ≡ cert_line n (cert_code c)) × (
 TellsCertFault cert.NoMemory out e = ⊥
 
 -- what is answered of a module and a certificate text
-abbrev pub IsCheckOf : List ℕ → Program → OutputSpec
-IsCheckOf text p out e =
-    ((c : Cert) × IsCertText text c.slim (seen_cert c) × IsVerdict p c out e)
+abbrev pub IsAnswerWith : CertTask → List ℕ → Program → OutputSpec
+IsAnswerWith task text p out e =
+    ((c : Cert) × IsCertText text c.version c.slim (seen_cert c) × IsAnswerFor task p c out e)
     ⊎ ((r : CertRefusal) × IsReported text r × TellsCertFault r out e)
 
--- what `check` answers to a module text and a certificate text
+-- what is answered to a module text and a certificate text
+abbrev pub IsTaskOutput : CertTask → List ℕ → List ℕ → OutputSpec
+IsTaskOutput task certificate text out e = IsOutputFor (IsAnswerWith task certificate) text out e
+
+-- what `check` answers
 abbrev pub IsCheckOutput : List ℕ → List ℕ → OutputSpec
-IsCheckOutput certificate text out e = IsOutputFor (IsCheckOf certificate) text out e
+IsCheckOutput certificate text out e = IsTaskOutput task.Check certificate text out e
+
+-- what `upgrade` answers
+abbrev pub IsUpgradeOutput : List ℕ → List ℕ → OutputSpec
+IsUpgradeOutput certificate text out e = IsTaskOutput task.Upgrade certificate text out e

@@ -1,6 +1,9 @@
 //! What a command writes that is given texts, and how it ends.
 
 ghost use Rattle.std.specs.Prelude.{◌≡◌, IfOk};
+ghost use Rattle.life_check.specs.Seen.{seen_cert};
+ghost use Rattle.life_cert.specs.CertText.{cert_text};
+ghost use Rattle.module_tools.specs.declared.ended.Ended.TheVariants as ended;
 ghost use Rattle.module_tools.specs.StreamFaults.{TellsOfWriter};
 ghost use Rattle.module_tools.specs.Streams.{WritesText};
 ghost use Rattle.module_tools.specs.TextAnswers.{TellsAsmFault, TellsRefusal};
@@ -9,7 +12,9 @@ use crate::ended::Ended;
 use crate::fault::PlayFault;
 use crate::streams::write_text;
 use byte_streams::Sink;
-use life_check::CheckRefusal;
+use byte_text::WriteFault;
+use life_cert::print_cert;
+use life_check::{Cert, CheckRefusal};
 use module_lang::AsmRefusal;
 use script_text::{put_asm_fault, put_refused_at};
 use std::alloc::{AllocError, Global};
@@ -46,6 +51,20 @@ pub fn refused_at(alloc: Global, refusal: CheckRefusal) -> Result<CommandOutput,
     put_refused_at(alloc, &mut text, refusal.pc, refusal.rule)?;
     let ended = Ended::Refused;
     Ok(CommandOutput { text, ended })
+}
+
+/// The text of a certificate.
+pub fn cert_text(alloc: Global, cert: &Cert) -> Result<CommandOutput, AllocError>
+    ensures { IfOk result (λ a. (a.text.items ≡ cert_text cert.now.version cert.now.slim (seen_cert cert.now)) × (a.ended ≡ ended.Done)) }
+{
+    let mut text = Vec::new(alloc);
+    match print_cert(cert, &mut text) {
+        Ok(()) => {
+            let ended = Ended::Done;
+            Ok(CommandOutput { text, ended })
+        }
+        Err(WriteFault) => Err(AllocError),
+    }
 }
 
 /// The answer of one line.

@@ -1,33 +1,19 @@
 //! The command `certify`.
 
 ghost use Rattle.std.specs.Prelude.{◌≡◌, ◌≢◌, false, IfOk, IfErr};
-ghost use Rattle.module_tools.specs.Prelude.{reads_left, source_of, seen_cert, cert_text, made, TellsOfReader, TellsOfWriter, Writes, made_form, IsCertification, IsCertified, IsOutputFront};
+ghost use Rattle.module_tools.specs.Prelude.{reads_left, source_of, seen_cert, version_two, cert_text, made, TellsOfReader, TellsOfWriter, Writes, made_form, IsCertification, IsCertified, IsOutputFront};
 ghost use Rattle.module_tools.specs.declared.ended.Ended.TheVariants as ended;
 
-use crate::answer::{CommandOutput, asm_fault, refused_at, write_answer};
+use crate::answer::{CommandOutput, asm_fault, cert_text, refused_at, write_answer};
 use crate::ended::Ended;
 use crate::fault::PlayFault;
 use crate::streams::read_all;
 use byte_streams::{CountedSource, READS, Sink, Source};
-use byte_text::WriteFault;
-use life_cert::{MakeRefusal, make, print_cert, slim};
+use life_cert::{MakeRefusal, make, slim};
 use life_check::{Cert, CheckRefusal};
 use module_code::Module;
 use module_lang::assemble;
 use std::alloc::{AllocError, Global};
-
-fn cert_text(alloc: Global, cert: &Cert) -> Result<CommandOutput, AllocError>
-    ensures { IfOk result (λ a. (a.text.items ≡ cert_text cert.now.slim (seen_cert cert.now)) × (a.ended ≡ ended.Done)) }
-{
-    let mut text = Vec::new(alloc);
-    match print_cert(cert, &mut text) {
-        Ok(()) => {
-            let ended = Ended::Done;
-            Ok(CommandOutput { text, ended })
-        }
-        Err(WriteFault) => Err(AllocError),
-    }
-}
 
 /// The text of a certificate that was made, or of its slim form.
 fn made_text(
@@ -36,9 +22,10 @@ fn made_text(
     cert: &Cert,
     is_slim: bool,
 ) -> Result<CommandOutput, AllocError>
+    requires version { cert.now.version ≡ version_two code.now }
     requires whole { cert.now.slim ≡ false }
     requires made { seen_cert cert.now ≡ made code.now }
-    ensures { IfOk result (λ a. (a.text.items ≡ cert_text is_slim (made_form is_slim code.now)) × (a.ended ≡ ended.Done)) }
+    ensures { IfOk result (λ a. (a.text.items ≡ cert_text (version_two code.now) is_slim (made_form is_slim code.now)) × (a.ended ≡ ended.Done)) }
 {
     if is_slim {
         let slim = slim(alloc, code, cert)?;

@@ -1,9 +1,10 @@
-//! What is done with the text of one module: it is assembled, certified, checked, or loaded for a chain. And the readers and writers around it.
+//! What is done with the text of one module: it is assembled, certified, checked, its certificate is upgraded, or it is loaded for a chain. And the readers and writers around it.
 #![tactic(auto)]
 
 mod answer;
 mod assembling;
 mod beginning;
+mod cert_answer;
 mod certifying;
 mod checking;
 mod ended;
@@ -12,10 +13,12 @@ mod loading;
 mod named_file;
 mod recorded;
 mod streams;
+mod upgrading;
 
 pub use answer::CommandOutput;
 pub use assembling::run_assemble;
 pub use beginning::{FRAME, run_new};
+pub use cert_answer::CertTask;
 pub use certifying::run_certify;
 pub use checking::run_check;
 pub use ended::Ended;
@@ -24,3 +27,4 @@ pub use loading::{Loaded, load_part};
 pub use named_file::NamedFile;
 pub use recorded::{Recorded, RecordedWriter};
 pub use streams::{read_all, write_text};
+pub use upgrading::run_upgrade;

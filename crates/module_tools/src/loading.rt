@@ -6,7 +6,7 @@ ghost use Rattle.module_tools.specs.Loading.{IsLoaded, IsLoadedWith};
 ghost use Rattle.module_tools.specs.StreamFaults.{TellsOfReader, TellsOfReaders};
 
 use crate::answer::{CommandOutput, asm_fault};
-use crate::checking::cert_fault;
+use crate::cert_answer::cert_fault;
 use crate::fault::PlayFault;
 use crate::streams::read_all;
 use byte_streams::{CountedSource, Source};

@@ -49,8 +49,8 @@ cert_over h new n m k c old text read is told same number written = (
 )
 
 -- A certificate text was read, and the last module has its certificate.
-pub cert_taken : (h : ScriptHead) (c : Cert) (old read cleared : List ℕ) (parts : List ScriptPart) → read ≡ h.text → IsCertText read c.slim (seen_cert c) → parts ≡ with_cert c h.parts
+pub cert_taken : (h : ScriptHead) (c : Cert) (old read cleared : List ℕ) (parts : List ScriptPart) → read ≡ h.text → IsCertText read c.version c.slim (seen_cert c) → parts ≡ with_cert c h.parts
     → cleared ≡ [] → TellsMore old old (λ told. EndsCert h taken.More told (record h { parts = parts; text = cleared; place = place.BehindCert }))
 cert_taken h c old read cleared parts is right given none =
     let made : List ScriptPart → List ℕ → ScriptHead = λ ps x. record h { parts = ps; text = x; place = place.BehindCert } in
-    ([], sym (append-nil old), (Ok c, subst (λ x. IsCertText x c.slim (seen_cert c)) is right, (refl, refl, ap (λ ps. made ps cleared) given ∙ ap (made (with_cert c h.parts)) none)))
+    ([], sym (append-nil old), (Ok c, subst (λ x. IsCertText x c.version c.slim (seen_cert c)) is right, (refl, refl, ap (λ ps. made ps cleared) given ∙ ap (made (with_cert c h.parts)) none)))

@@ -1,11 +1,13 @@
 -- Laws on the modules of a script, one after another.
-use Rattle.std.proofs.Common.{◌≡◌, false, ℕ, zero, suc, ◌+◌, List, [], ◌∷◌, ◌++◌, All, length, map, take, Option, Some, None, slice_get, refl, ap, sym, subst, ◌∙◌, append_assoc, arith}
+use Rattle.std.proofs.Common.{◌≡◌, ◌==◌, Bool, true, false, ◌&&◌, ℕ, zero, suc, ◌+◌, List, [], ◌∷◌, ◌++◌, All, length, map, take, Option, Some, None, slice_get, refl, ap, sym, subst, ◌∙◌, append_assoc, arith}
+use Rattle.std.proofs.lemmas.Bool.{eq-eqb}
 use Rattle.std.proofs.lemmas.List.{length-append, map-append, append-nil}
 use Rattle.std.proofs.lemmas.List.Elements.{All-head, All-tail, All-push}
 use Rattle.module_code.specs.Program.{Program}
 use Rattle.life_check.specs.Accepted.{CertifiedModule as Pair, modules_of, IsAccepted, IsChainRefusal}
 use Rattle.life_check.specs.Certificates.{Certificate}
 use Rattle.life_check.specs.Seen.{seen_cert}
+use Rattle.life_check.specs.Versions.{names_shape, version_two}
 use Rattle.life_check.specs.Typed.{IsTyped, first_refusal}
 use Rattle.life_check.specs.declared.cert.Cert.{Cert}
 use Rattle.life_check.specs.declared.refusal.CheckRefusal.{CheckRefusal}
@@ -26,10 +28,19 @@ given p o = record { code = p; cert = o }
 made_none : (p : Program) (m : Certificate) → IsTyped p m → m ≡ made p → first_refusal p (made p) ≡ None
 made_none p m typed is = none_typed p (made p) (subst (IsTyped p) is typed)
 
-pub made_certified : (p : Program) (o : Option Cert) (c : Cert) → o ≡ None → c.slim ≡ false → IsTyped p (seen_cert c) → seen_cert c ≡ made p → (unmade (given p o) ≡ None)
-    × (cert_refusal p c ≡ refusal_of (given p o))
-made_certified p o c none whole typed is =
-    (ap (λ x. unmade (given p x)) none ∙ made_none p (seen_cert c) typed is, whole_refusal p c whole ∙ (ap (first_refusal p) is ∙ ap (λ x. refusal_of (given p x)) (sym none)))
+all_three : (a b c : Bool) → a ≡ true → b ≡ true → c ≡ true → (a && b && c) ≡ true
+all_three a b c first second third = rw first (rw second (rw third refl))
+
+-- a module has the shape that its own certificate of version 2 names
+own_shape : (p : Program) → names_shape p (version_two p) ≡ true
+own_shape p =
+    all_three (length p.pools == length p.pools) (length p.brigades == length p.brigades) (length p.code == length p.code) (eq-eqb (length p.pools) (length p.pools) refl)
+    (eq-eqb (length p.brigades) (length p.brigades) refl) (eq-eqb (length p.code) (length p.code) refl)
+
+pub made_certified : (p : Program) (o : Option Cert) (c : Cert) → o ≡ None → c.version ≡ version_two p → c.slim ≡ false → IsTyped p (seen_cert c) → seen_cert c ≡ made p
+    → (unmade (given p o) ≡ None) × (cert_refusal p c ≡ refusal_of (given p o))
+made_certified p o c none named whole typed is =
+    (ap (λ x. unmade (given p x)) none ∙ made_none p (seen_cert c) typed is, whole_refusal p c (ap (names_shape p) named ∙ own_shape p) whole ∙ (ap (first_refusal p) is ∙ ap (λ x. refusal_of (given p x)) (sym none)))
 
 -- The first of some refusals.
 

@@ -80,7 +80,7 @@ with_cert c (x ∷ []) = (record x { cert = Some c }) ∷ []
 with_cert c (x ∷ (y ∷ ys)) = x ∷ with_cert c (y ∷ ys)
 
 abbrev pub ReadsCertText : List ℕ → Result Cert CertRefusal → Type 0
-ReadsCertText text (Ok c) = IsCertText text c.slim (seen_cert c)
+ReadsCertText text (Ok c) = IsCertText text c.version c.slim (seen_cert c)
 ReadsCertText text (Err r) = IsReported text r
 
 abbrev pub IsCertRead : Result Cert CertRefusal → ScriptHead → LineMoves

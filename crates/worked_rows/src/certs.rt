@@ -6,12 +6,12 @@ ghost use Rattle.byte_streams.specs.Counted.{reads_left};
 use crate::missing::Missing;
 use crate::modules::{
     ALIAS_CERT, ALIAS_DELETED, ALIAS_WITHOUT_FACT, ASIDE_CERT, ASIDE_INTO_REQUEST, IDENTITY,
-    IDENTITY_CERT, IDENTITY_SLIM, KEEPER_CONCATS, LOOPING_INIT, NEXT_THEN_UNLINK,
+    IDENTITY_CERT, IDENTITY_SLIM, IDENTITY_TWO, KEEPER_CONCATS, LOOPING_INIT, NEXT_THEN_UNLINK,
     READ_AFTER_DELETE, REUSED_PASSED_BRIGADE,
 };
 use anyhow::Result;
 use byte_streams::{CountedSource, READS};
-use module_tools::{Loaded, load_part, run_assemble, run_certify, run_check};
+use module_tools::{Loaded, load_part, run_assemble, run_certify, run_check, run_upgrade};
 use script_text::{MODULES, ScriptModule, accept_parts, rule_name};
 use std::alloc::Global;
 use std::io::{self, Write};
@@ -33,6 +33,8 @@ enum Row {
     Slim(&'static [u8]),
     /// A module is checked with a certificate.
     Checked(&'static str, WithCert),
+    /// The certificate of a module is printed in version 2.
+    Upgraded(WithCert),
     /// The module that passes on, with its certificate without the line of this number.
     Without(&'static str),
     /// Modules with their certificates are a chain.
@@ -42,8 +44,8 @@ enum Row {
 const PASSED_ON: WithCert = WithCert(IDENTITY, IDENTITY_CERT, "", "");
 
 /// A text is read as a module, which is printed in the one way. A certificate is made where no instruction may have a fault; else the
-/// lowest that may is told. It is accepted where its states follow from one another, and refused without any one of its lines. A chain is
-/// accepted where each module is; else the first is told that is not.
+/// lowest that may is told. It is accepted where its states follow from one another, and refused without any one of its lines. One of version
+/// 1 that is accepted is printed in version 2. A chain is accepted where each module is; else the first is told that is not.
 static ROWS: &[Row] = &[
     Row::Says("a module is printed"),
     Row::Printed(IDENTITY),
@@ -101,6 +103,28 @@ static ROWS: &[Row] = &[
             "3 sent=no in=u/o/call\n5 sent=maybe in=u/o/call\n",
         ),
     ),
+    Row::Says("certificates of version 2"),
+    Row::Checked(
+        "of what passes on what it gets",
+        WithCert(IDENTITY, IDENTITY_TWO, "", ""),
+    ),
+    Row::Checked(
+        "of nine instructions",
+        WithCert(IDENTITY, IDENTITY_TWO, "code", "code 9\n"),
+    ),
+    Row::Checked(
+        "with a state where `same` is due",
+        WithCert(IDENTITY, IDENTITY_TWO, "5 ", "5 sent=maybe in=u/o/call\n"),
+    ),
+    Row::Checked(
+        "with `same` of a later line",
+        WithCert(IDENTITY, IDENTITY_TWO, "3 ", "3 same 4\n"),
+    ),
+    Row::Says("certificates are upgraded"),
+    Row::Upgraded(PASSED_ON),
+    Row::Upgraded(WithCert(IDENTITY, IDENTITY_SLIM, "", "")),
+    Row::Upgraded(WithCert(IDENTITY, IDENTITY_TWO, "", "")),
+    Row::Upgraded(WithCert(IDENTITY, IDENTITY_CERT, "4 ", "")),
     Row::Says("certificates that are none"),
     Row::Checked(
         "without its end",
@@ -152,6 +176,14 @@ fn tell_checked(alloc: Global, with: WithCert, out: &mut Vec<u8>) -> Result<()> 
     Ok(())
 }
 
+/// Prints the certificate of a module in version 2, and adds what is told.
+fn tell_upgraded(alloc: Global, with: WithCert, out: &mut Vec<u8>) -> Result<()> {
+    let cert = cert_of(alloc, with)?;
+    let mut cert = source(cert.as_bytes());
+    run_upgrade(alloc, &mut source(with.0), &mut cert, out)?;
+    Ok(())
+}
+
 /// Adds what a row of a module tells.
 fn tell(alloc: Global, row: Row, out: &mut Vec<u8>) -> Result<()> {
     match row {
@@ -159,6 +191,7 @@ fn tell(alloc: Global, row: Row, out: &mut Vec<u8>) -> Result<()> {
         Row::Made(text) => run_certify(alloc, &mut source(text), out, false)?,
         Row::Slim(text) => run_certify(alloc, &mut source(text), out, true)?,
         Row::Checked(_, with) => return tell_checked(alloc, with, out),
+        Row::Upgraded(with) => return tell_upgraded(alloc, with, out),
         Row::Without(line) => {
             return tell_checked(alloc, WithCert(IDENTITY, IDENTITY_CERT, line, ""), out);
         }

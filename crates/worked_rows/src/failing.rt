@@ -8,7 +8,7 @@ use anyhow::Result;
 use byte_streams::{CountedSource, READS, Sink, Source};
 use filter_chain::{Rings, Stored};
 use http_front::FrontKind;
-use module_tools::{Ended, PlayFault, run_assemble, run_certify, run_check, run_new};
+use module_tools::{Ended, PlayFault, run_assemble, run_certify, run_check, run_new, run_upgrade};
 use script_play::run_play;
 use std::alloc::Global;
 
@@ -29,6 +29,8 @@ enum StreamCall {
     Check,
     /// It is checked. The module is read from memory.
     CheckWith,
+    /// Its certificate is printed in version 2. The module is read from memory.
+    Upgrade,
     /// A module to begin with is written; nothing is read.
     New,
 }
@@ -36,7 +38,7 @@ enum StreamCall {
 type Text = &'static [u8];
 
 /// A call, how what it reads is called, a text, what comes after it, and what comes after both, again and again, where there is no end.
-/// `CheckWith` reads the certificate of `IDENTITY` in place of the text.
+/// `CheckWith` and `Upgrade` read the certificate of `IDENTITY` in place of the text.
 type Row = (StreamCall, &'static str, Text, Text, Text);
 
 /// How many reads give nothing before each byte of a reader without an end: so it gives 50,000 bytes in all.
@@ -77,6 +79,7 @@ const ROWS: &[Row] = &[
     (StreamCall::Slim, "a module", IDENTITY, b"", IDENTITY),
     (StreamCall::Check, "a module", IDENTITY, b"", IDENTITY),
     (StreamCall::CheckWith, "a certificate", b"", b"", IDENTITY),
+    (StreamCall::Upgrade, "a certificate", b"", b"", IDENTITY),
     (StreamCall::New, "nothing", b"", b"", IDENTITY),
 ];
 
@@ -137,6 +140,7 @@ fn ask<B: Rings<Stored> + Drop, R: Source + Drop, W: Sink>(
         StreamCall::Slim => end_of(run_certify(alloc, &mut reader, writer, true)),
         StreamCall::Check => end_of(run_check(alloc, &mut reader, &mut cert, writer)),
         StreamCall::CheckWith => end_of(run_check(alloc, &mut module, &mut reader, writer)),
+        StreamCall::Upgrade => end_of(run_upgrade(alloc, &mut module, &mut reader, writer)),
         StreamCall::New => end_of(run_new(writer)),
     })
 }
@@ -246,7 +250,7 @@ fn show_text<B: Rings<Stored> + Drop>(
 fn show_row<B: Rings<Stored> + Drop>(rt: &HostRuntime, row: Row) -> Result<()> {
     let (call, _, before, then, _) = row;
     let begun = match call {
-        StreamCall::CheckWith => IDENTITY_CERT.as_bytes(),
+        StreamCall::CheckWith | StreamCall::Upgrade => IDENTITY_CERT.as_bytes(),
         _ => before,
     };
     let mut text = begun.to_vec(rt.alloc())?;

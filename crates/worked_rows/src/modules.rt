@@ -33,6 +33,23 @@ ready sent=maybe
 end
 ";
 
+/// The same in version 2.
+pub(crate) const IDENTITY_TWO: &str = "cert 2 full
+vars 0 0
+code 8
+idle sent=no
+ready sent=maybe
+0 sent=no
+1 same 0
+2 sent=maybe in=u/o/call
+3 sent=no in=u/o/call
+4 sent=maybe in=p
+5 same 2
+6 sent=maybe in=u/e/-
+7 same 4
+end
+";
+
 /// The same in its slim form.
 pub(crate) const IDENTITY_SLIM: &str = "slim 1
 idle sent=no

@@ -90,7 +90,7 @@ def is_module(script, at):
 
 def given_certificate(script, at, line):
     """The certificate that stands at `at`, if one does, and the place and line behind it. (A text without an `end` is not judged.)"""
-    if script[at:].split(b'\n', 1)[0].split(b' ', 1)[0] != b'cert':
+    if script[at:].split(b'\n', 1)[0].split(b' ', 1)[0] not in (b'cert', b'slim'):
         return None, at, line
     end = script.find(b'\nend\n', at)
     if end < 0:

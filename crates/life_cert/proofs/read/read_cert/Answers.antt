@@ -1,5 +1,6 @@
 -- A text that is not too long is read as it is.
 use Rattle.life_cert.proofs.OneCert.{read_short}
+use Rattle.life_cert.proofs.OneState.{one_state}
 use Rattle.std.proofs.Common.{length-take, arith}
 use Rattle.life_cert.proofs.ReadLaws.{all_told}
 use Rattle.life_cert.proofs.TextLengths.{printed_is_short}
@@ -15,9 +16,9 @@ pub returns-else-text-gt-MAX_LEN-clause-told : goal.returns-else-text-gt-MAX_LEN
 returns-else-text-gt-MAX_LEN-clause-told c = all_told c.args.text.now c.read_lines-else-text-gt-MAX_LEN.result c.if-text-gt-MAX_LEN.false c.read_lines-else-text-gt-MAX_LEN.ensures.told
 
 pub returns-then-text-gt-MAX_LEN-clause-again : goal.returns-then-text-gt-MAX_LEN-clause-again
-returns-then-text-gt-MAX_LEN-clause-again c = λ slim d p. let small = printed_is_short c.args.text.now slim d p in absurd (omega (arith, small))
+returns-then-text-gt-MAX_LEN-clause-again c = λ v slim d p. let small = printed_is_short c.args.text.now v slim d p in absurd (omega (arith, small))
 
 pub returns-else-text-gt-MAX_LEN-clause-again : goal.returns-else-text-gt-MAX_LEN-clause-again
 returns-else-text-gt-MAX_LEN-clause-again c =
     let r = c.read_lines-else-text-gt-MAX_LEN in
-    read_short c.args.text.now r.result r.ensures.right (all_told c.args.text.now r.result c.if-text-gt-MAX_LEN.false r.ensures.told)
+    read_short one_state c.args.text.now r.result r.ensures.right (all_told c.args.text.now r.result c.if-text-gt-MAX_LEN.false r.ensures.told)

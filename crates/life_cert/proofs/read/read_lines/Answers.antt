@@ -12,7 +12,7 @@ returns-in_err-last-clause-told c =
     let p = err_from_is_err_and c.from_residual.result c.from_residual.ensures.1 in
     let text = c.args.text.now in
     rw (p.1, p.2) (refused_told (more_than c.args.long (rest_from [] text))
-    (lines_from [] text) c.new-draft.result c.take_lines.new.reader c.in_err-last.field-0.0 c.new-draft.ensures.due c.in_err-last.ensures.refused)
+    (lines_from [] text) c.new-draft.result c.take_lines.new.reader c.in_err-last.field-0.0 c.new-draft.ensures.begun c.in_err-last.ensures.refused)
 
 pub returns-in_err-end_lines-clause-told : goal.returns-in_err-end_lines-clause-told
 returns-in_err-end_lines-clause-told c =
@@ -24,7 +24,7 @@ returns-in_err-end_lines-clause-told c =
     let rest : take (length text - start) (drop start text) ≡ rest_from [] text = take_all (length text - start) (drop start text) (omega (arith, size)) ∙ l.last.1 in
     let end = subst (λ (r : List ℕ). EndTold (more_than c.args.long r) c.take_lines.new.reader.due c.in_ok-last.last.number (Err c.in_err-end_lines.field-0.0)) rest c.in_err-end_lines.ensures in
     rw (p.1, p.2) (end_told (more_than c.args.long (rest_from [] text))
-    (lines_from [] text) c.new-draft.result c.take_lines.new.reader c.in_ok-last.last.number c.in_err-end_lines.field-0.0 c.new-draft.ensures.due l.taken l.last.0 end)
+    (lines_from [] text) c.new-draft.result c.take_lines.new.reader c.in_ok-last.last.number c.in_err-end_lines.field-0.0 c.new-draft.ensures.begun l.taken l.last.0 end)
 
 pub returns-clause-right : goal.returns-clause-right
 returns-clause-right c =
@@ -34,4 +34,4 @@ returns-clause-right c =
     let size : length (drop start text) ≡ length text - start = length-drop start text in
     let rest : take (length text - start) (drop start text) ≡ rest_from [] text = take_all (length text - start) (drop start text) (omega (arith, size)) ∙ l.last.1 in
     let end = subst (λ (r : List ℕ). EndTold (more_than c.args.long r) c.take_lines.new.reader.due c.in_ok-last.last.number (Ok tt)) rest c.in_ok-end_lines.ensures in
-    read_whole c.args.long text c.new-draft.result c.take_lines.new.reader c.in_ok-last.last.number c.new-draft.ensures.due l.ready l.taken end c.requires
+    read_whole c.args.long text c.new-draft.result c.take_lines.new.reader c.in_ok-last.last.number c.new-draft.ensures.begun l.ready l.taken end c.requires

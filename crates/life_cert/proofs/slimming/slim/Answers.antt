@@ -10,4 +10,4 @@ returns-clause-states c =
     slim_is c.args.code.now c.args.cert.now c.loop-pc.at.items long (λ k low. c.loop-pc.invariant.1 k (omega (arith, low, c.loop-pc.invariant.0)))
 
 pub returns-clause-accepted : goal.returns-clause-accepted
-returns-clause-accepted c = λ formed a. slim_accepts c.args.code.now c.args.cert.now _ c.len-count.ensures.sound formed refl (returns-clause-states c) a
+returns-clause-accepted c = λ formed a. slim_accepts c.args.code.now c.args.cert.now _ c.len-count.ensures.sound formed refl refl (returns-clause-states c) a

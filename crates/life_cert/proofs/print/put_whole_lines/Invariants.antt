@@ -1,0 +1,11 @@
+-- The lines from this one on are left.
+use Rattle.std.proofs.Common.{false, length, slice_get}
+use Rattle.life_check.specs.Seen.{seen_line}
+use Rattle.life_cert.specs.CertText.{pc_line}
+use Rattle.life_cert.specs.Drafts.{HaveSums}
+use Rattle.life_cert.proofs.Writing.{LeavesEach}
+use Rattle.life_cert.proofs.print.put_whole_lines.Given as goal
+
+abbrev pub invariant-loop-pc : goal.invariant-loop-pc
+invariant-loop-pc g l =
+    LeavesEach (g.W.Write.contents l.fn.out) (g.W.Write.contents l.out) (length l.at) (pc_line false (λ k. seen_line (slice_get l.at k))) l.pc

@@ -1,8 +1,0 @@
-use Rattle.module_tools.proofs.AnswerLaws.{tells_cert_fault, tells_verdict}
-use Rattle.module_tools.proofs.checking.checked.Goals as goal
-
-pub returns-in-Err : goal.returns-in-Err
-returns-in-Err c = tells_cert_fault c.cert_fault.result _ _ c.in-Err.refusal c.in-Err.ensures.told c.cert_fault.ensures
-
-pub returns-in-Ok : goal.returns-in-Ok
-returns-in-Ok c = tells_verdict c.verdict.result _ _ c.in-Ok.cert c.in-Ok.ensures.right c.verdict.ensures
