@@ -9,7 +9,7 @@ ghost use Rattle.life_check.specs.ChainTheorem.{ChainNeverFaults};
 use crate::error::{CompileError, unwritten};
 use author_code::{PerByte, Written, per_byte, write_module};
 use author_text::tree::Filter;
-use life_check::{Cert, check};
+use life_check::{Cert, CertVersion, check};
 use module_code::Module;
 use module_lang::{AsmRefusal, assemble};
 use std::alloc::Global;
@@ -19,7 +19,7 @@ use std::alloc::Global;
 pub struct Compiled {
     /// The module.
     pub code: Module,
-    /// A slim certificate, with which it is accepted.
+    /// A slim certificate of version 2, with which it is accepted.
     pub cert: Cert,
     /// The text of the module, with the lines of the source in comments.
     pub text: Vec<u8>,
@@ -57,6 +57,7 @@ fn unchecked(alloc: Global, written: Written) -> Result<Compiled, CompileError>
         return Err(CompileError::NoMemory);
     };
     let cert = Cert {
+        version: CertVersion::two(&code),
         slim: true,
         idle: Some(idle),
         ready: Some(ready),

@@ -1,7 +1,7 @@
 //! Certificates of version 1 as certificates of version 2.
 
-ghost use Rattle.std.specs.Prelude.{◌≡◌, true, IfErr, OnOk};
-ghost use Rattle.life_cert.specs.Prelude.{Accepts, is_in_range, seen_cert, version_two};
+ghost use Rattle.std.specs.Prelude.{◌≡◌, IfErr, OnOk};
+ghost use Rattle.life_cert.specs.Prelude.{Accepts, seen_cert, version_two};
 ghost use Rattle.life_cert.specs.Upgrades.{IsUpgradeRefusal};
 ghost use Rattle.life_check.specs.declared.version.CertVersion.TheVariants as version;
 
@@ -9,18 +9,6 @@ use crate::print::is_two;
 use crate::refusal::UpgradeRefusal;
 use life_check::{Cert, CertVersion, check};
 use module_code::Module;
-
-/// Version 2, of a module.
-pub(crate) fn version_two(code: &Module) -> CertVersion
-    ensures value { result ≡ version_two code.now }
-    ensures named { is_in_range result ≡ true }
-{
-    CertVersion::Two {
-        pools: code.pool_count(),
-        brigades: code.brigade_count(),
-        code: code.len() as u16,
-    }
-}
 
 /// Carries an accepted certificate of version 1 over to version 2: the same states, slim where it was. What comes of it is accepted.
 /// Takes no memory.
@@ -38,6 +26,6 @@ pub fn upgrade(code: &Module, cert: &mut Cert) -> Result<(), UpgradeRefusal>
         return Err(UpgradeRefusal::Already);
     }
     check(code, cert)?;
-    cert.version = version_two(code);
+    cert.version = CertVersion::two(code);
     Ok(())
 }

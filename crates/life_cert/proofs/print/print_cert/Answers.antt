@@ -1,4 +1,4 @@
-use Rattle.std.proofs.Common.{◌++◌, ◌∷◌, [], codes, decimal}
+use Rattle.std.proofs.Common.{◌++◌, codes}
 use Rattle.byte_text.proofs.WritingLaws.{wrote_then}
 use Rattle.life_cert.proofs.Writing.{wrote_front}
 use Rattle.life_check.specs.Seen.{seen_cert}

@@ -2,7 +2,6 @@
 use Rattle.std.proofs.Common.{false, length, slice_get}
 use Rattle.life_check.specs.Seen.{seen_line}
 use Rattle.life_cert.specs.CertText.{pc_line}
-use Rattle.life_cert.specs.Drafts.{HaveSums}
 use Rattle.life_cert.proofs.Writing.{LeavesEach}
 use Rattle.life_cert.proofs.print.put_whole_lines.Given as goal
 
