@@ -6,11 +6,12 @@
 
 Checked are, in each Markdown file: that links lead to a file, and to a heading of it; that a file or folder which is named
 `like/this.rt` is there; that a function or definition which is linked `like_this` stands in the file that the link names, and the
-clauses named after it in the contract of that function; that a number beside a link in a table is the file's number of lines; that what a transcript shows below
-`$ cat FILE` and `$ ./host < SCRIPT`, or `$ ./host --unproved < SCRIPT`, is that file, and the answers kept with that script; that
-docs/TRUST.md names each file of definitions; that the words of docs/MODEL.md are there; that README.md has at most 900 words, and no cell
-of a table there more than 30; that examples/README.md names each script; and that no line but one of a table has more than 200
-characters (python3 tests/wrap.py lays them out).
+clauses named after it in the contract of that function (in docs/CLAIMS.md those after a colon, too); that a number beside links in a
+table is the files' number of lines; that what a transcript shows below `$ cat FILE` and `$ ./host < SCRIPT`, or
+`$ ./host --unproved < SCRIPT`, is that file, and the answers kept with that script; that each file of definitions is named in
+docs/CLAIMS.md or in tests/lower_definitions.txt, and not in both; that the words of docs/MODEL.md are there; that README.md has at most 900
+words, and no cell of a table there more than 30; that examples/README.md names each script; and that no line but one of a table has
+more than 200 characters (python3 tests/wrap.py lays them out).
 """
 import os
 import re
@@ -22,11 +23,14 @@ MOST_WORDS = 30
 README_WORDS = 900
 LONGEST = 200
 
-LINK = re.compile(r'\[([^\]]+)\]\(([^)\s]+)\)')
+LINK = re.compile(r'\[([^\]]+)\]\(([^)\s]*)\)')
 SPAN = re.compile(r'`([^`]+)`')
 NAMED_FILE = re.compile(r'(?:[\w.*-]+/)*[\w.*-]+\.(?:rt|antt|py|md|script|stdout|expected|edit|txt)|(?:[\w.*-]+/)+')
 WORD = re.compile(r'(?:[A-Za-z]\w*::)*([A-Za-z]\w*)')
-COUNTED = re.compile(r'(\| \[[^\]]*\]\(([^)#\s]+)\) \| )(\d+|-)( \|)')
+COUNTED = re.compile(r'(\| ((?:\[[^\]]*\]\([^)#\s]+\) )+)\| )(\d+|-)( \|)')
+CLAUSES = {False: re.compile(r', clauses? ((?:`\w+`(?:, | and )?)+)'), True: re.compile(r'(?:, clauses?|:) ((?:`\w+`(?:, | and )?)+)')}
+CLAIMS = 'docs/CLAIMS.md'
+LOWER = 'tests/lower_definitions.txt'
 SUM = re.compile(r'(\| \*\*in all\*\* \| )(\d+|-)( \|)')
 
 
@@ -77,27 +81,27 @@ def headings(path):
 
 def link_faults(path, line):
     """What is wrong with the links of a line."""
-    for shown, target in LINK.findall(line):
+    for link in LINK.finditer(line):
+        shown, target = link.groups()
         if target.startswith(('http:', 'https:')):
             continue
         name, _, anchor = target.partition('#')
         full = os.path.normpath(os.path.join(os.path.dirname(path), name)) if name else path
-        if not os.path.exists(os.path.join(TOP, full)):
+        if not target or not os.path.exists(os.path.join(TOP, full)):
             yield 'dead link %s' % target
         elif anchor and anchor not in headings(full):
             yield 'no heading for %s' % target
         elif full.endswith(('.rt', '.antt')):
-            yield from word_faults(shown, full, line[line.index(target):])
+            yield from word_faults(shown, full, CLAUSES[path == CLAIMS].match(line, link.end()))
 
 
-def word_faults(shown, full, behind):
+def word_faults(shown, full, named):
     """Whether the word that a link shows stands in the file that it leads to, and the clauses named after it in its contract."""
     text = read(full)
     words = [word for word in map(WORD.fullmatch, SPAN.findall(shown)) if word]
     for word in words:
         if not re.search(r'\b%s\b' % word[1], text):
             yield '%s does not stand in %s' % (word[0], full)
-    named = re.match(r'[^)]*\), clauses? ((?:`\w+`(?:, | and )?)+)', behind)
     if named and words:
         clauses = set(SPAN.findall(named[1]))
         if not any(clauses <= told for told in contracts(text, words[0][1])):
@@ -106,7 +110,7 @@ def word_faults(shown, full, behind):
 
 def contracts(text, name):
     """The names of the clauses of each function of this name."""
-    heads = re.findall(r'\bfn %s\b.*?^ *\{\}?$' % name, text, re.S | re.M)
+    heads = re.findall(r'\bfn %s\b.*?(?:^ *\{\}?$|\};$)' % name, text, re.S | re.M)
     return [set(re.findall(r'\bensures (\w+) \{', head)) for head in heads]
 
 
@@ -190,7 +194,8 @@ def with_figures(path):
     for line in read(path).split('\n'):
         counted = COUNTED.search(line)
         if counted:
-            count = lines_of(path, counted[2])
+            counts = [lines_of(path, target) for _, target in LINK.findall(counted[2])]
+            count = '-' if '-' in counts else str(sum(map(int, counts)))
             total += int(count) if count != '-' else 0
             line = COUNTED.sub(lambda found: found[1] + count + found[4], line, count=1)
         elif SUM.search(line):
@@ -217,15 +222,18 @@ def faults():
             found.append('%s: numbers of lines are not right; python3 tests/documents.py --write puts them right' % path)
     found += [*model_faults(), *length_faults()]
     found += ['examples/README.md: it does not name %s' % file for file in unlisted()]
-    return found + ['docs/TRUST.md: it does not name %s' % file for file in unnamed()]
+    return found + definition_faults()
 
 
-def unnamed():
-    """The files of definitions that docs/TRUST.md does not name, by themselves or by their folder. Lib and Prelude define nothing."""
-    named = {os.path.normpath(os.path.join('docs', target)) for _, target in LINK.findall(read('docs/TRUST.md'))}
-    return [file for file in all_files()
-            if re.search(r'/specs/.*\.antt$', file) and not file.endswith(('/Lib.antt', '/Prelude.antt')) and
-            not named & {file, os.path.dirname(file)}]
+def definition_faults():
+    """The files of definitions that are named neither in docs/CLAIMS.md nor in the list of lower ones, or in both, and what that list has beside
+    them. Lib and Prelude define nothing."""
+    named = {os.path.normpath(os.path.join('docs', target)) for _, target in LINK.findall(read(CLAIMS))}
+    lower = read(LOWER).split()
+    files = [file for file in all_files() if re.search(r'/specs/.*\.antt$', file) and not file.endswith(('/Lib.antt', '/Prelude.antt'))]
+    found = ['%s and %s: neither names %s' % (CLAIMS, LOWER, file) for file in files if file not in named and file not in lower]
+    found += ['%s: %s is named in %s' % (LOWER, file, CLAIMS) for file in lower if file in named]
+    return found + ['%s: no file of definitions %s' % (LOWER, file) for file in lower if file not in files]
 
 
 def write():

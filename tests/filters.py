@@ -1,10 +1,13 @@
 """Plays the filters of filters/ with their tests, and chains of them.
 
-A test stands in filters/tests/NAME.test, that of a chain in filters/tests/chains/FIRST-SECOND-THIRD.test. Its lines are
+A filter stands there as a module, NAME.mod, as a text of the language for authors, NAME.filter, or as both; what the program compiles of
+the text is played as the module is. A test stands in filters/tests/NAME.test, that of a chain of modules in
+filters/tests/chains/FIRST-SECOND-THIRD.test. Its lines are
 
     # ..                           a remark
     body IN => OUT ; IN => OUT ..  bodies of requests on one connection, and what is to come out for each; where there is one
                                    body alone it is sent twice
+    with NAME="VALUE" .. body ..   the same, played with the text of the language alone, in which the operator sets these `param`
     > COMMAND                      a command of a script, and behind it the lines of its answer
 
 IN and OUT are texts as in a script, one behind the other, each with a count before it where it stands more than once:
@@ -18,10 +21,12 @@ import itertools
 import os
 import random
 import re
+import subprocess
 
 TOP = os.path.dirname(os.path.dirname(os.path.abspath(__file__)))
 KINDS = ('heap', 'transient', 'immortal', 'pool', 'file')
 TERM = re.compile(r'(?:(\d+) \* )?"((?:[^"\\]|\\.)*)"')
+SETTING = re.compile(r'(\w+)="((?:[^"\\]|\\.)*)" ')
 ESCAPE = re.compile(r'\\(x[0-9a-f]{2}|.)')
 NAMED = {'n': 10, 'r': 13, '"': 34, '\\': 92}
 
@@ -122,31 +127,62 @@ def transcript(lines):
 
 
 def tests(path):
-    """The bodies and the transcript of a file of tests."""
+    """The bodies and the transcript of a file of tests; and the bodies that are for certain settings alone, with these."""
     with open(path, encoding='ascii') as file:
         lines = [line.rstrip('\n') for line in file if line.strip() and not line.startswith('#')]
-    told = [line[5:] for line in lines if line.startswith('body ')]
-    return [bodies(line) for line in told], transcript([line for line in lines if not line.startswith('body ')])
+    told = [bodies(line[5:]) for line in lines if line.startswith('body ')]
+    set_to = [line[5:].split('body ', 1) for line in lines if line.startswith('with ')]
+    others = [([(name, unquoted(value)) for name, value in SETTING.findall(settings)], bodies(line)) for settings, line in set_to]
+    return told, transcript([line for line in lines if not line.startswith(('body ', 'with '))]), others
+
+
+def plays_of(requests, chance):
+    """The plays of some requests, in many cuts."""
+    for cut in cuts(requests[0][0], chance):
+        play = Play(chance)
+        for number, (body, out) in enumerate(requests):
+            play.request(body, cut if number == 0 else next(cuts(body, chance)), out)
+        yield play.commands, play.due
 
 
 def plays(name, path):
     """All plays of a filter or a chain, as commands with the answers that are due."""
     chance = random.Random(name)
-    sent, (commands, due) = tests(path)
+    sent, (commands, due), _ = tests(path)
     for requests in sent:
-        for cut in cuts(requests[0][0], chance):
-            play = Play(chance)
-            for number, (body, out) in enumerate(requests):
-                play.request(body, cut if number == 0 else next(cuts(body, chance)), out)
-            yield play.commands, play.due
+        yield from plays_of(requests, chance)
     if commands:
         yield commands, due
 
 
+def plays_with(name, path):
+    """The plays of a filter for certain settings: these, and the plays."""
+    chance = random.Random(name)
+    for settings, requests in tests(path)[2]:
+        yield settings, plays_of(requests, chance)
+
+
 def filters():
-    """The filters, by their names."""
+    """The filters that are modules, by their names."""
     for path in sorted(glob.glob(os.path.join(TOP, 'filters', '*.mod'))):
         yield os.path.basename(path)[:-4], path
+
+
+def sources():
+    """The filters in the language for authors that have tests, by their names; new.filter, which the program prints, has none."""
+    for path in sorted(glob.glob(os.path.join(TOP, 'filters', '*.filter'))):
+        name = os.path.basename(path)[:-len('.filter')]
+        if name != 'new':
+            yield name, path
+
+
+def compiled(program, path, settings=()):
+    """The module of a filter in the language with its certificate, as one text, and what the program says where it makes none."""
+    words = [word for name, value in settings for word in ('--set', name.encode() + b'=' + value)]
+    made = [subprocess.run([program, command, path] + words, capture_output=True) for command in ('compile', 'certify')]
+    if any(done.returncode for done in made):
+        return None, made[0].stdout.decode('latin-1')
+    return ''.join(done.stdout.decode('ascii') for done in made), ''
 
 
 def chains():
@@ -169,6 +205,11 @@ def text_of(path):
         return file.read()
 
 
-def script(paths, commands):
+def certified(paths):
+    """The modules of a chain, each with its certificate."""
+    return ''.join(text_of(path) + text_of(path + '.cert') for path in paths)
+
+
+def script(texts, commands):
     """A script that plays a chain, checked with its certificates."""
-    return ''.join(text_of(path) + text_of(path + '.cert') for path in paths) + 'checked\n' + ''.join(c + '\n' for c in commands)
+    return texts + 'checked\n' + ''.join(c + '\n' for c in commands)

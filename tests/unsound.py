@@ -8,8 +8,8 @@ The rules are definitions in crates/life_state/specs; their laws are proved in c
 of these crates, in which life_state is read as source and none of its functions is proved: the rule alone is wrong, not the code.
 In a group several rules are wrong at once. None of them is part of another instruction's rule, so the laws of these instructions
 must be refused, and all others proved. The rules that others share, and those of one law (ALONE), are tried by themselves.
-module_code, run_model and model_laws must be built (rt check in crates/life_check builds them). Each line that is printed is a row of the table in
-the README of life_check.
+module_code, run_model and model_laws must be built (rt check in crates/life_check builds them). Each line that is printed
+has the instruction, what its rule says wrongly, and what fails.
 """
 import os
 import re

@@ -1,13 +1,19 @@
-//! The program: it plays scripts, prints modules, and makes, checks and upgrades certificates.
+//! The program: it plays scripts, prints modules, makes, checks and upgrades certificates, filters bodies and serves.
 #![tactic(auto)]
 
+mod endings;
+mod filter_command;
+mod filters;
 mod serve_options;
+mod settings;
 mod task;
 mod words;
 
 use byte_streams::{CountedSource, StdSink};
-use clap::Error;
-use clap::error::ErrorKind;
+use endings::{end, end_unset, end_words};
+use filter_command::filter_input;
+use filter_files::{ParamSetting, is_filter_name, run_new_filter};
+use filters::{compile_file, module_text, unless_unused};
 use http_serve::run_serve;
 use life_explain::{explain_certify, explain_check, explain_play, explain_upgrade};
 use module_tools::{
@@ -15,56 +21,12 @@ use module_tools::{
     run_check, run_new, run_upgrade,
 };
 use script_play::run_play;
+use settings::TaskError;
 use std::alloc::AllocError;
 use std::io::{IsTerminal, Read};
 use std::process::ExitCode;
 use std::{env, io};
 use task::{CliTask, task_of};
-
-/// Tells that a line cannot be written.
-fn end_unwritten(rt: &HostRuntime) -> ExitCode {
-    let _ = rt.eprintln(PlayFault::Write);
-    ExitCode::FAILURE
-}
-
-/// Tells how a task ended, and a fault of the program by one line; the name is that of what could not be read. Why it could not, where that is
-/// known, is told on the standard error.
-fn end(
-    rt: &HostRuntime,
-    ended: Result<Ended, PlayFault>,
-    name: &str,
-    why: Option<io::Error>,
-) -> ExitCode {
-    let told = match ended {
-        Ok(Ended::Done) => return ExitCode::SUCCESS,
-        Ok(Ended::Refused) => Ok(()),
-        Err(PlayFault::Read) => rt.println(format_args!("{} {name}", PlayFault::Read)),
-        Err(fault @ PlayFault::NoMemory) => rt.println(fault),
-        Err(PlayFault::Write) => return end_unwritten(rt),
-    };
-    if told.is_err() {
-        return end_unwritten(rt);
-    }
-    if let Some(why) = why {
-        let _ = rt.eprintln(format_args!("cause: {why}"));
-    }
-    ExitCode::FAILURE
-}
-
-/// Tells why the words ask for nothing, or the help that they ask for.
-fn end_words(rt: &HostRuntime, error: &Error) -> ExitCode {
-    if error.kind() == ErrorKind::OutOfMemory {
-        return end(rt, Err(PlayFault::NoMemory), "", None);
-    }
-    let printed = error.print(rt);
-    if error.use_stderr() {
-        return ExitCode::from(2);
-    }
-    match printed {
-        Ok(()) => ExitCode::SUCCESS,
-        Err(_) => end_unwritten(rt),
-    }
-}
 
 fn assemble_file(rt: &HostRuntime, file: &str) -> ExitCode {
     let mut reader = CountedSource::from_reader(NamedFile::new(rt, file));
@@ -105,15 +67,33 @@ fn certify<T: Read + Drop>(
     certified
 }
 
-fn certify_file(rt: &HostRuntime, file: &str, is_slim: bool, asked: bool) -> ExitCode {
+fn certify_file(
+    rt: &HostRuntime,
+    file: &str,
+    settings: &mut [ParamSetting<'_>],
+    is_slim: bool,
+    helps: bool,
+) -> Result<ExitCode, ExitCode> {
+    if is_filter_name(file) {
+        let text = module_text(rt, file, settings, helps)?;
+        let certified = certify(rt, text.as_slice(), is_slim, helps);
+        return Ok(end(rt, certified, file, None));
+    }
+    unless_unused(rt, settings)?;
     let mut input = NamedFile::new(rt, file);
-    let certified = certify(rt, &mut input, is_slim, tells_help(rt, asked));
-    end(rt, certified, file, input.fault())
+    let certified = certify(rt, &mut input, is_slim, helps);
+    Ok(end(rt, certified, file, input.fault()))
 }
 
-fn certify_input(rt: &HostRuntime, is_slim: bool, asked: bool) -> ExitCode {
-    let certified = certify(rt, rt.stdin(), is_slim, tells_help(rt, asked));
-    end(rt, certified, "standard input", None)
+fn certify_input(
+    rt: &HostRuntime,
+    settings: &[ParamSetting<'_>],
+    is_slim: bool,
+    helps: bool,
+) -> Result<ExitCode, ExitCode> {
+    unless_unused(rt, settings)?;
+    let certified = certify(rt, rt.stdin(), is_slim, helps);
+    Ok(end(rt, certified, "standard input", None))
 }
 
 fn play_script(rt: &HostRuntime, asked: bool) -> ExitCode {
@@ -165,46 +145,101 @@ fn explained(
     }
 }
 
+/// Tells how it ended that a certificate was asked for, with the file that was read last.
+fn end_with_cert(
+    rt: &HostRuntime,
+    ended: Result<Ended, PlayFault>,
+    file: &str,
+    why: Option<io::Error>,
+    cert: &NamedFile<'_, HostRuntime>,
+) -> ExitCode {
+    if cert.is_read() {
+        end(rt, ended, cert.name(), cert.fault())
+    } else {
+        end(rt, ended, file, why)
+    }
+}
+
 fn ask_with_cert_file(
     rt: &HostRuntime,
     task: CertTask,
     file: &str,
     cert: &str,
-    asked: bool,
-) -> ExitCode {
-    let mut module_file = NamedFile::new(rt, file);
+    settings: &mut [ParamSetting<'_>],
+    helps: bool,
+) -> Result<ExitCode, ExitCode> {
     let mut cert_file = NamedFile::new(rt, cert);
-    let helps = tells_help(rt, asked);
+    if is_filter_name(file) {
+        let text = module_text(rt, file, settings, helps)?;
+        let ended = ask_with_cert(rt, task, text.as_slice(), &mut cert_file, helps);
+        return Ok(end_with_cert(rt, ended, file, None, &cert_file));
+    }
+    unless_unused(rt, settings)?;
+    let mut module_file = NamedFile::new(rt, file);
     let ended = ask_with_cert(rt, task, &mut module_file, &mut cert_file, helps);
-    if cert_file.is_read() {
-        end(rt, ended, cert, cert_file.fault())
+    Ok(end_with_cert(rt, ended, file, module_file.fault(), &cert_file))
+}
+
+fn new_text(rt: &HostRuntime, is_filter: bool) -> ExitCode {
+    let mut writer = StdSink::new(rt.stdout());
+    let written = if is_filter {
+        run_new_filter(&mut writer)
     } else {
-        end(rt, ended, file, module_file.fault())
+        run_new(&mut writer)
+    };
+    end(rt, written, "", None)
+}
+
+fn code_of(ended: Result<ExitCode, ExitCode>) -> ExitCode {
+    match ended {
+        Ok(code) | Err(code) => code,
     }
 }
 
 fn perform(rt: &HostRuntime, task: CliTask<'_>) -> ExitCode {
     match task {
         CliTask::Play { explains } => play_script(rt, explains),
-        CliTask::New => end(rt, run_new(&mut StdSink::new(rt.stdout())), "", None),
+        CliTask::New { is_filter } => new_text(rt, is_filter),
         CliTask::Assemble { file } => assemble_file(rt, file),
+        CliTask::Compile {
+            file,
+            mut settings,
+            explains,
+        } => compile_file(rt, file, settings.as_mut_slice(), tells_help(rt, explains)),
         CliTask::Certify {
             file: Some(file),
+            mut settings,
             is_slim,
             explains,
-        } => certify_file(rt, file, is_slim, explains),
+        } => code_of(certify_file(
+            rt,
+            file,
+            settings.as_mut_slice(),
+            is_slim,
+            tells_help(rt, explains),
+        )),
         CliTask::Certify {
             file: None,
+            settings,
             is_slim,
             explains,
-        } => certify_input(rt, is_slim, explains),
+        } => code_of(certify_input(rt, settings.as_slice(), is_slim, tells_help(rt, explains))),
         CliTask::WithCert {
             task,
             file,
             cert,
+            mut settings,
             explains,
-        } => ask_with_cert_file(rt, task, file, cert, explains),
-        CliTask::Serve(options) => run_serve(rt, &options),
+        } => code_of(ask_with_cert_file(
+            rt,
+            task,
+            file,
+            cert,
+            settings.as_mut_slice(),
+            tells_help(rt, explains),
+        )),
+        CliTask::Filter(options) => filter_input(rt, options),
+        CliTask::Serve(mut options) => run_serve(rt, &mut options),
     }
 }
 
@@ -216,7 +251,8 @@ fn main(rt: HostRuntime) -> ExitCode {
     match arguments(&rt) {
         Ok(words) => match task_of(rt.alloc(), words.as_slice()) {
             Ok(task) => perform(&rt, task),
-            Err(error) => end_words(&rt, &error),
+            Err(TaskError::Words(error)) => end_words(&rt, &error),
+            Err(TaskError::NoSetting(word)) => end_unset(&rt, word),
         },
         Err(error) if error.kind() == io::ErrorKind::OutOfMemory => end(
             &rt,

@@ -18,6 +18,8 @@ enum WordTakes {
     InPlaceOf(&'static str),
     /// A text, which must be given.
     Text,
+    /// A text, any number of times.
+    Texts,
     /// A text, or this one.
     TextOr(&'static str),
     /// The number of a port, which must be given.
@@ -70,6 +72,22 @@ const SLIM: UsageWord = UsageWord {
     help: "Gives states only for the first instruction of each handler and for targets; the rules say the others",
 };
 
+/// What the operator sets.
+const SET: UsageWord = UsageWord {
+    name: "set",
+    takes: WordTakes::Texts,
+    shown: "NAME=VALUE",
+    help: "Sets a param of the filter, or of each filter of a chain that has it; FILTER.NAME=VALUE names the filter",
+};
+
+/// Whether a filter is printed.
+const FILTER: UsageWord = UsageWord {
+    name: "filter",
+    takes: WordTakes::Nothing,
+    shown: "",
+    help: "Prints a filter in the language for authors, which compiles as it stands",
+};
+
 /// Where a module is judged.
 const EXPLAIN: UsageWord = UsageWord {
     name: "explain",
@@ -78,12 +96,34 @@ const EXPLAIN: UsageWord = UsageWord {
     help: "Tells on the standard error why a module is refused, and what to write instead; so it does on a terminal",
 };
 
+/// Where a filter is compiled.
+const EXPLAIN_SOURCE: UsageWord = UsageWord {
+    name: "explain",
+    takes: WordTakes::Nothing,
+    shown: "",
+    help: "Shows on the standard error the line of a fault, and a caret under its column; so it does on a terminal",
+};
+
 /// Where a script is played.
 const EXPLAIN_PLAYS: UsageWord = UsageWord {
     name: "explain",
     takes: WordTakes::Nothing,
     shown: "",
     help: "Tells on the standard error, behind the answers, what faults and refusals mean, and what to write instead; so it does on a terminal",
+};
+
+const CHAIN: UsageWord = UsageWord {
+    name: "MODULE",
+    takes: WordTakes::Files,
+    shown: "MODULE",
+    help: "The filters, the first first: modules, the certificate of each in MODULE.cert, and files NAME.filter",
+};
+
+const BUDGET: UsageWord = UsageWord {
+    name: "budget",
+    takes: WordTakes::NumberOr("1000000", 0, 4_294_967_295),
+    shown: "N",
+    help: "How many instructions a call of the chain may take",
 };
 
 const SERVE: &[UsageWord] = &[
@@ -117,12 +157,7 @@ const SERVE: &[UsageWord] = &[
         shown: "",
         help: "Serves connections until it is stopped",
     },
-    UsageWord {
-        name: "budget",
-        takes: WordTakes::NumberOr("1000000", 0, 4_294_967_295),
-        shown: "N",
-        help: "How many instructions a call of the chain may take",
-    },
+    BUDGET,
     UsageWord {
         name: "timeout",
         takes: WordTakes::NumberOr("30", 1, 4_294_967_295),
@@ -141,12 +176,8 @@ const SERVE: &[UsageWord] = &[
         shown: "",
         help: "Tells each request and each connection on the standard error",
     },
-    UsageWord {
-        name: "MODULE",
-        takes: WordTakes::Files,
-        shown: "MODULE",
-        help: "The filters, the first first; the certificate of each in MODULE.cert",
-    },
+    SET,
+    CHAIN,
 ];
 
 const COMMANDS: &[CommandRow] = &[
@@ -157,8 +188,13 @@ const COMMANDS: &[CommandRow] = &[
     },
     CommandRow {
         name: "new",
-        about: "Prints a module to begin with, which is accepted as it stands",
-        words: &[],
+        about: "Prints a module to begin with, which is accepted as it stands, or a filter",
+        words: &[FILTER],
+    },
+    CommandRow {
+        name: "compile",
+        about: "Prints the module of a filter in the language for authors, or the first fault of its text",
+        words: &[FILE, SET, EXPLAIN_SOURCE],
     },
     CommandRow {
         name: "assemble",
@@ -168,17 +204,22 @@ const COMMANDS: &[CommandRow] = &[
     CommandRow {
         name: "certify",
         about: "Makes a certificate of a module, or tells why there is none; of standard input with no file",
-        words: &[MODULE, SLIM, EXPLAIN],
+        words: &[MODULE, SLIM, SET, EXPLAIN],
     },
     CommandRow {
         name: "check",
         about: "Checks a certificate of a module",
-        words: &[FILE, CERT, EXPLAIN],
+        words: &[FILE, CERT, SET, EXPLAIN],
     },
     CommandRow {
         name: "upgrade",
         about: "Prints a certificate of version 1, which is checked first, in version 2",
-        words: &[FILE, CERT, EXPLAIN],
+        words: &[FILE, CERT, SET, EXPLAIN],
+    },
+    CommandRow {
+        name: "filter",
+        about: "Puts standard input through a chain of filters, which is checked first, to standard output",
+        words: &[BUDGET, SET, CHAIN],
     },
     CommandRow {
         name: "serve",
@@ -206,6 +247,7 @@ fn taking<'a>(arg: Arg<'a>, takes: WordTakes) -> Result<Arg<'a>, AllocError> {
         WordTakes::Files => Ok(arg.required(true).num_args(1..=16)),
         WordTakes::Nothing => Ok(arg.action(ArgAction::SetTrue)),
         WordTakes::InPlaceOf(other) => arg.action(ArgAction::SetTrue).conflicts_with(other),
+        WordTakes::Texts => Ok(arg.action(ArgAction::Append)),
         WordTakes::TextOr(default) => Ok(arg.default_value(default)),
         WordTakes::Port => Ok(taking_port(arg)),
         WordTakes::NumberOr(default, least, most) => {

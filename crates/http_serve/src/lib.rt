@@ -10,8 +10,9 @@ mod request_log;
 mod serve_command;
 mod site_reading;
 mod socket;
-mod start_error;
 mod system_clock;
 mod unclosed;
 
+pub use http_front::Failure;
+pub use request_log::failure_hint;
 pub use serve_command::{ServeOptions, run_serve};

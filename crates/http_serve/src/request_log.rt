@@ -99,8 +99,8 @@ pub fn told_by<'a, R: Clock + Eprint + AllocGlobal>(
     if logs { Some(log) } else { None }
 }
 
-/// What may be done about a failure.
-fn hint(failure: Failure) -> &'static str {
+/// What may be done about a failure, as it stands behind its words; nothing, where that is not known.
+pub fn failure_hint(failure: Failure) -> &'static str {
     match failure {
         Failure::Refused(Refusal::Broken(Cause::OutOfSteps)) => ", which --budget raises",
         _ => "",
@@ -116,7 +116,7 @@ impl fmt::Display for Reason {
         let Some(why) = self.0 else {
             return Ok(());
         };
-        let hint = hint(why);
+        let hint = failure_hint(why);
         write!(f, ": {why}{hint}")
     }
 }

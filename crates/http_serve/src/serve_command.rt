@@ -8,20 +8,16 @@ use crate::descriptors::{files_to_keep, too_few};
 use crate::event_loop::serve_turns;
 use crate::listening::{ServeSettings, serve_all};
 use crate::site_reading::read_site;
-use crate::start_error::{StartCause, StartError, cannot_read, told, told_for};
 use bucket_kinds::DiskFiles;
-use byte_streams::CountedSource;
-use byte_text::put_all;
 use filter_chain::{CheckedChain, Files, Host, Limits, RawRings, Rings, Stored};
+use filter_files::{ParamSetting, StartCause, StartError, read_chain, tell_stop, told, told_for};
 use http_message::Site;
-use module_tools::{CommandOutput, Loaded, NamedFile, PlayFault, load_part};
-use script_text::{Refused, ScriptModule, accept_parts, put_refused_module};
+use module_tools::PlayFault;
 use std::alloc::{AllocError, Global};
-use std::io;
 use std::net::{IpAddr, Net, SocketAddr, TcpListener, TcpStream};
 use std::os::unix::fs::FileExt;
 use std::process::ExitCode;
-use std::rt::{Clock, Files as FileSystem, Runtime};
+use std::rt::{Clock, Runtime};
 use std::time::Duration;
 
 /// What `serve` is asked for.
@@ -43,109 +39,10 @@ pub struct ServeOptions<'a> {
     pub timeout: u32,
     /// Whether connections are told on the standard error.
     pub logs: bool,
-    /// The modules, the first first.
+    /// The files of the filters, the first first.
     pub modules: Vec<&'a str>,
-}
-
-/// The stop of a fault of reading; none of these functions writes.
-fn stop_of(alloc: Global, fault: PlayFault, name: &str, cause: StartCause) -> StartError {
-    match fault {
-        PlayFault::Read => cannot_read(alloc, name, cause),
-        PlayFault::Write | PlayFault::NoMemory => StartError::NoMemory,
-    }
-}
-
-/// The module with its certificate that was loaded. A fault is one of the file of this name.
-fn part_of(
-    alloc: Global,
-    loaded: Result<Loaded, PlayFault>,
-    name: &str,
-    cause: StartCause,
-) -> Result<ScriptModule, StartError> {
-    match loaded {
-        Ok(Loaded::Part(part)) => Ok(part),
-        Ok(Loaded::Told(CommandOutput { text, ended: _ })) => {
-            Err(StartError::Told(text, StartCause::Told))
-        }
-        Err(fault) => Err(stop_of(alloc, fault, name, cause)),
-    }
-}
-
-/// Reads a module and its certificate from the files of these names.
-fn read_files<R: FileSystem + AllocGlobal>(
-    rt: &R,
-    name: &str,
-    cert_name: &str,
-) -> Result<ScriptModule, StartError> {
-    let alloc = rt.alloc();
-    let mut reader = CountedSource::from_reader(NamedFile::new(rt, name));
-    let mut cert = CountedSource::from_reader(NamedFile::new(rt, cert_name));
-    let loaded = load_part(alloc, &mut reader, &mut cert);
-    let last = if cert.source().reader.is_read() {
-        cert_name
-    } else {
-        name
-    };
-    let fault = match cert.source().reader.fault() {
-        Some(fault) => Some(fault),
-        None => reader.source().reader.fault(),
-    };
-    part_of(alloc, loaded, last, StartCause::of_fault(fault))
-}
-
-/// Reads a module and its certificate, which stands in the file of its name with `.cert` behind it.
-fn read_part<R: FileSystem + AllocGlobal>(rt: &R, name: &str) -> Result<ScriptModule, StartError> {
-    let cert_name = format!(in rt.alloc(); "{name}.cert")?;
-    read_files(rt, name, cert_name.as_str())
-}
-
-/// The words of the command let no such chain through.
-fn no_chain(alloc: Global) -> StartError {
-    told(alloc, format!(in alloc; "a chain has 1 to 16 modules\n"))
-}
-
-/// Reads these modules, each with its certificate.
-fn read_parts<R: FileSystem + AllocGlobal>(
-    rt: &R,
-    names: &[&str],
-    parts: &mut Vec<ScriptModule>,
-) -> Result<(), StartError> {
-    for name in names {
-        parts.push(read_part(rt, name)?).map_err(AllocError::from)?;
-    }
-    Ok(())
-}
-
-/// The stop of a module of a chain that is refused.
-fn stop_of_module(alloc: Global, at: Refused) -> Result<StartError, AllocError> {
-    let mut line = Vec::new(alloc);
-    put_refused_module(alloc, &mut line, at.index, at.refusal.pc, at.refusal.rule)?;
-    Ok(StartError::Told(line, StartCause::Told))
-}
-
-/// The chain of these modules, which is checked.
-fn chain_of(alloc: Global, parts: Vec<ScriptModule>) -> Result<CheckedChain, StartError> {
-    if parts.is_empty() {
-        return Err(no_chain(alloc));
-    }
-    if parts.len() > 16 {
-        return Err(no_chain(alloc));
-    }
-    match accept_parts(alloc, parts)? {
-        Ok(chain) => Ok(chain),
-        Err(at) => Err(stop_of_module(alloc, at)?),
-    }
-}
-
-/// The chain of these modules, each read with its certificate, and then checked.
-fn read_chain<R: FileSystem + AllocGlobal>(
-    rt: &R,
-    names: &[&str],
-) -> Result<CheckedChain, StartError> {
-    let alloc = rt.alloc();
-    let mut parts = Vec::new(alloc);
-    read_parts(rt, names, &mut parts)?;
-    chain_of(alloc, parts)
+    /// The params that are set.
+    pub settings: Vec<ParamSetting<'a>>,
 }
 
 /// The address and the port, where they are one.
@@ -203,28 +100,6 @@ where
         Ok(listener) => Ok((listener, address)),
         Err(fault) => Err(cannot_listen(rt.alloc(), StartCause::System(fault))),
     }
-}
-
-fn is_put<R: Print>(rt: &R, line: &[u8]) -> bool {
-    put_all(&mut io::writer(rt), line).is_ok()
-}
-
-fn is_told<R: Print>(rt: &R, fault: PlayFault) -> bool {
-    rt.println(fault).is_ok()
-}
-
-/// Ends with a line on the standard output and its cause on the standard error, or with a line there on a fault of the standard output.
-fn tell_stop<R: Print + Eprint>(rt: &R, stop: StartError) -> ExitCode {
-    let (told, cause) = match stop {
-        StartError::Told(line, cause) => (is_put(rt, line.as_slice()), cause),
-        StartError::NoMemory => (is_told(rt, PlayFault::NoMemory), StartCause::Told),
-    };
-    let _ = if told {
-        rt.eprint(cause)
-    } else {
-        rt.eprintln(PlayFault::Write)
-    };
-    ExitCode::FAILURE
 }
 
 /// The system does not tell what is ready.
@@ -331,21 +206,22 @@ where
 }
 
 /// Reads and checks the chain, reads the site, and serves it.
-fn serve_files<R, B>(rt: &R, options: &ServeOptions<'_>) -> Result<ExitCode, StartError>
+fn serve_files<R, B>(rt: &R, options: &mut ServeOptions<'_>) -> Result<ExitCode, StartError>
 where
     R: Runtime + AllocGlobal + Net<Listener = TcpListener, Stream = TcpStream>,
     R::File: FileExt,
     B: Rings<Stored> + Drop,
 {
     unless_too_few(rt.alloc(), options.at_once)?;
-    let chain = read_chain(rt, options.modules.as_slice())?;
+    let settings = options.settings.as_mut_slice();
+    let chain = read_chain(rt, options.modules.as_slice(), settings)?;
     let site = read_site(rt, options.site)?;
     serve_chain::<R, B>(rt, options, chain, &site)
 }
 
 /// Serves connections behind a port. What it tells goes to the standard output, and what it logs to the standard error. It fails where the chain
 /// or the site is none, where the port is not to be had, and where the standard output fails; a connection that fails ends alone.
-pub fn run_serve<R>(rt: &R, options: &ServeOptions<'_>) -> ExitCode
+pub fn run_serve<R>(rt: &R, options: &mut ServeOptions<'_>) -> ExitCode
 where
     R: Runtime + AllocGlobal + Net<Listener = TcpListener, Stream = TcpStream>,
     R::File: FileExt,

@@ -1,8 +1,8 @@
 //! The site, from its file.
 
-use crate::start_error::{StartCause, StartError, cannot_read, told_for};
 use byte_streams::{READ_BYTES, READS};
 use byte_text::{TextLine, first_line};
+use filter_files::{StartCause, StartError, cannot_read, told_for};
 use http_message::{SITE_BYTES, Site, SiteFault, SiteRefusal, site_line, site_of};
 use module_tools::NamedFile;
 use std::alloc::Global;

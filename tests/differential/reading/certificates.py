@@ -1,6 +1,6 @@
 """Certificates: their texts, the checker, and the maker; and what the commands `certify` and `check` must answer.
 
-A reading of docs/CERTIFICATES.md, written apart from the definitions and from the code, so that a slip in either shows.
+A reading of docs/LANGUAGE.md, written apart from the definitions and from the code, so that a slip in either shows.
 """
 import re
 from dataclasses import dataclass, field, replace

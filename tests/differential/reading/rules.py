@@ -1,6 +1,6 @@
 """The rules of the checker: what an instruction needs in a state, and the states to which it leads.
 
-A reading of docs/CERTIFICATES.md, written apart from the definitions and from the code, so that a slip in either shows.
+A reading of docs/LANGUAGE.md, written apart from the definitions and from the code, so that a slip in either shows.
 """
 from dataclasses import replace
 

@@ -1,6 +1,6 @@
 """Abstract states of the checker: their form, their order, the join, and their texts.
 
-Part of the reading of docs/CERTIFICATES.md that rules.py and certificates.py make.
+Part of the reading of docs/LANGUAGE.md that rules.py and certificates.py make.
 """
 import re
 from dataclasses import dataclass, replace

@@ -1,0 +1,5 @@
+pub mod Bodies
+pub mod BodyCalls
+pub mod Filtered
+pub mod Feeding
+pub mod Prelude

@@ -1,0 +1,7 @@
+pub use Rattle.module_tools.specs.TextAnswers
+pub use Rattle.author_text.specs.Places
+pub mod FilterAnswers
+pub mod FilterReads
+pub mod Settings
+pub mod Stops
+pub mod Prelude
