@@ -1,11 +1,11 @@
 -- The pools that a clear reaches, in the order of their names.
-use Rattle.std.proofs.Common.{◌≡◌, ◌==◌, ◌<◌, ◌≤◌, ◌||◌, ◌&&◌, ℕ, Bool, true, false, not, List, reverse, length, get_or, is_ok, Result, Ok, Err, refl, sym, ap, ◌∙◌, arith, ⊎_elim}
+use Rattle.std.proofs.Common.{◌≡◌, ◌==◌, ◌<◌, ◌≤◌, ◌||◌, ◌&&◌, ℕ, Bool, true, false, not, List, [], ◌∷◌, ◌++◌, reverse, length, get_or, is_ok, Result, Ok, Err, refl, sym, ap, ◌∙◌, arith, ⊎_elim}
 use Rattle.std.specs.List.Sorted.{IsBinarySearchResult, IsNonDecreasing, IsPermutation}
 use Rattle.std.specs.Ordering.{nat_cmp}
 use Rattle.std.specs.Result.{MatchResult}
 use Rattle.std.proofs.lemmas.Bool.{cases_lt, eqb-true, eq-eqb, ne_eqb, false≢true}
-use Rattle.std.proofs.lemmas.List.Folds.{list_any_at, list_any_none}
-use Rattle.std.proofs.lemmas.List.Sorted.{list_any-IsPermutation, searched}
+use Rattle.std.proofs.lemmas.List.Folds.{list_any-append, list_any_at, list_any_none}
+use Rattle.std.proofs.lemmas.List.Sorted.{IsPermutation-refl, list_any-IsPermutation, searched}
 use Rattle.std.proofs.lemmas.List.{get_or_default}
 use Rattle.run_model.specs.Pools.{is_live, is_under, is_in}
 use Rattle.run_model.specs.RunOrder.{order_under}
@@ -31,6 +31,12 @@ module _ (xs : List ℕ) (x : ℕ) where
   pub found_in : (r : Result ℕ ℕ) → IsBinarySearchResult (λ y. nat_cmp y x) xs r → IsNonDecreasing xs → is_ok r ≡ is_in x xs
   found_in r at up = by_answer r (searched xs x r at (λ i j le lt. up i j 0 le lt))
 
+or_last : (a b : Bool) → (a || b) ≡ true → (b || (a || false)) ≡ true
+or_last true true e = refl
+or_last true false e = refl
+or_last false true e = refl
+or_last false false e = absurd (false≢true e)
+
 and_yes : (a : Bool) → (a && true) ≡ a
 and_yes true = refl
 and_yes false = refl
@@ -48,3 +54,10 @@ all_reached tree pool found under live order moved p =
         let same : p ≡ pool = eqb-true p pool here in
         rw (eq-eqb pool p (sym same)) (sym (ap (is_under (map_of tree) pool) same ∙ under_itself (map_of tree) (tree_formed tree) pool live))
     by_name false other = rw (ne_eqb pool p (λ e. false≢true (sym other ∙ eq-eqb p pool (sym e)))) (and_yes (is_under (map_of tree) pool p))
+
+-- a pool behind those under it: all that lie under it are among them
+pub all_listed : {T : Type 0} (tree : PoolTree T) (pool : ℕ) (found : List ℕ) → is_live (map_of tree) pool ≡ true → reverse found ≡ order_under (map_of tree) pool
+    → (p : ℕ) → is_under (map_of tree) pool p ≡ true → is_in p (found ++ pool ∷ []) ≡ true
+all_listed tree pool found live order p under =
+    list_any-append (λ m. m == p) found (pool ∷ [])
+    ∙ or_last (pool == p) (is_in p found) (all_reached tree pool found found live order (IsPermutation-refl found) p ∙ under)
