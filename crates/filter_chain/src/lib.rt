@@ -19,7 +19,7 @@ mod telling;
 pub use block_bytes::BlockBytes;
 pub use bucket_kinds::{AddRefusal, FileNo, Files, MemFiles, Stored};
 pub use bucket_ring::{RawRings, Rings};
-pub use byte_text::WriteFault;
+pub use byte_text::{TextWriter, WriteFault};
 pub use host::Host;
 pub use life_check::CheckedChain;
 pub use limits::Limits;

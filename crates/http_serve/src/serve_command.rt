@@ -11,7 +11,7 @@ use crate::site_reading::read_site;
 use crate::start_error::{StartCause, StartError, cannot_read, told, told_for};
 use bucket_kinds::DiskFiles;
 use byte_streams::CountedSource;
-use byte_text::put_all;
+use byte_text::{TextWriter, put_all};
 use filter_chain::{CheckedChain, Files, Host, Limits, RawRings, Rings, Stored};
 use http_message::Site;
 use module_tools::{CommandOutput, Loaded, NamedFile, PlayFault, load_part};
@@ -206,7 +206,7 @@ where
 }
 
 fn is_put<R: Print>(rt: &R, line: &[u8]) -> bool {
-    put_all(&mut io::writer(rt), line).is_ok()
+    put_all(&mut TextWriter::new(io::writer(rt)), line).is_ok()
 }
 
 fn is_told<R: Print>(rt: &R, fault: PlayFault) -> bool {

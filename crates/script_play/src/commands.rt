@@ -5,7 +5,9 @@ ghost use Rattle.script_play.specs.Prelude.{is_there, World, refusal_of, IsHosti
 ghost use Rattle.script_play.specs.Prelude.{device};
 
 use crate::labels::labels_of;
-use filter_chain::{AddRefusal, Host, MemFiles, Piece, Refusal, Rings, Seq, Stepped, Stored};
+use filter_chain::{
+    AddRefusal, Host, MemFiles, Piece, Refusal, Rings, Seq, Stepped, Stored, TextWriter,
+};
 use script_text::{Command, CommandReply, FileLine, ScriptPiece};
 use std::alloc::{AllocError, Global};
 
@@ -190,10 +192,11 @@ fn pools<R: Rings<Stored> + Drop>(
     ensures served { IfOk result (λ r. (w : World) → IsHosting (device host.now) host.now w → IsServed host.now host.now Command.Pools r w) }
     ensures faultless { IfOk result (λ r. is_fault r ≡ false) }
 {
-    let mut lines = Vec::new(alloc);
-    let Ok(()) = host.print_pools(&mut lines) else {
+    let mut out = TextWriter::new(Vec::new(alloc));
+    let Ok(()) = host.print_pools(&mut out) else {
         return Err(AllocError);
     };
+    let lines = out.into_writer();
     let mut text = Seq::new(alloc);
     text.extend(lines.as_slice())?;
     Ok(CommandReply::Pools(text))
