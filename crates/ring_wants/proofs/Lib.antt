@@ -7,3 +7,4 @@ pub mod RoundSteps
 pub mod ByteWalks
 pub mod TraceSteps
 pub mod TraceWalks
+pub mod EachView
