@@ -13,7 +13,7 @@ CASES = os.path.join(TOP, 'tests', 'cases')
 IDENTITY = os.path.join(TOP, 'tests', 'certificates', 'identity')
 
 # scripts whose growths are refused one by one
-REFUSED = ('identity', 'bsave_keeps_transient', 'cleanup_order', 'aside_into_the_request_within_it', 'pool_bucket_survives_its_pool',
+REFUSED = ('identity', 'keeper_saves', 'bsave_keeps_transient', 'cleanup_order', 'aside_into_the_request_within_it', 'pool_bucket_survives_its_pool',
            'close_while_a_call_runs', 'pre_cleanups', 'chain_each_filter_leaves', 'leave_keeps_what_it_has', 'close_before_the_hand_over')
 # scripts of one connection that is closed after each of its steps
 CLOSED = ('identity', 'bsave_keeps_transient', 'cleanup_order', 'aside_into_the_request_within_it', 'pool_bucket_survives_its_pool',
@@ -45,8 +45,9 @@ def refuse(program, folder, told):
     refuser = refusals.Refuser(program, folder)
     serve.lay_out(program, folder)
     found = [(name, refusals.play(refuser, script(name))) for name in REFUSED]
-    module, cert, old = IDENTITY + '.module', IDENTITY + '.certify', IDENTITY + '.whole.cert'
-    for words in (['assemble', module], ['certify', module], ['check', module, cert], ['check', module, old], ['upgrade', module, old]):
+    module, cert, old, slim = (IDENTITY + end for end in ('.module', '.certify', '.whole.cert', '.slim'))
+    for words in (['assemble', module], ['certify', module], ['certify', '--slim', module], ['check', module, cert], ['check', module, old],
+                  ['check', module, slim], ['upgrade', module, old]):
         found.append((words[0], refusals.ask(refuser, words)))
     found.append(('serve', refusals.serve_pages(refuser, folder)))
     for name, (_, _, fault) in found:
