@@ -1,0 +1,2 @@
+pub mod FullyTold
+pub mod Once
