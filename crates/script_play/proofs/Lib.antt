@@ -9,3 +9,6 @@ pub mod BringLaws
 pub mod Served
 pub mod FaithfulFiles
 pub mod SessionLaws
+pub mod CommandOnce
+pub mod HeadOnce
+pub mod TextOnce
