@@ -17,6 +17,7 @@ pub mod Driven
 pub mod Nearing
 pub mod Among
 pub mod Connecting
+pub mod Once
 pub mod Serving
 pub mod Rows
 pub mod FeedRows
