@@ -1,5 +1,8 @@
 //! Reading a whole filter.
 
+ghost use Rattle.std.specs.Prelude.{◌≡◌};
+ghost use Rattle.author_text.specs.PrintedSource.{event_text};
+
 use crate::parser::Parser;
 use crate::source::{Decl, Def, Handler, Name, Setting, Source, Trigger};
 use crate::stmts::MAX_DEPTH;
@@ -17,7 +20,9 @@ const EVENTS: [Event; 6] = [
 ];
 
 /// How an event is written.
-pub fn event_text(event: Event) -> &'static str {
+pub fn event_text(event: Event) -> &'static str
+    ensures { result.now ≡ event_text event }
+{
     match event {
         Event::Start => "start",
         Event::Call => "call",

@@ -1,5 +1,8 @@
 //! The operators, and how closely they bind.
 
+ghost use Rattle.std.specs.Prelude.{◌≡◌};
+ghost use Rattle.author_text.specs.Printed.{closer, left_level, operator_text, operator_level, rank};
+
 use crate::source::BinaryOp;
 
 /// How closely an operator binds.
@@ -33,7 +36,9 @@ pub const OPERATORS: [BinaryOp; 15] = [
 ];
 
 /// The level that binds more closely.
-pub fn closer(level: Level) -> Level {
+pub fn closer(level: Level) -> Level
+    ensures { result ≡ closer level }
+{
     match level {
         Level::Or => Level::And,
         Level::And => Level::Compare,
@@ -43,8 +48,34 @@ pub fn closer(level: Level) -> Level {
     }
 }
 
+/// How closely the left operand of an operator of this level binds at least: comparisons are not chained.
+pub fn left_level(level: Level) -> Level
+    ensures { result ≡ left_level level }
+{
+    match level {
+        Level::Compare => Level::Sum,
+        Level::Or | Level::And | Level::Sum | Level::Product | Level::Unit => level,
+    }
+}
+
+/// The place of a level among all, from the loosest.
+pub fn rank(level: Level) -> u8
+    ensures { result ≡ rank level }
+{
+    match level {
+        Level::Or => 0,
+        Level::And => 1,
+        Level::Compare => 2,
+        Level::Sum => 3,
+        Level::Product => 4,
+        Level::Unit => 5,
+    }
+}
+
 /// How an operator is written.
-pub fn operator_text(op: BinaryOp) -> &'static str {
+pub fn operator_text(op: BinaryOp) -> &'static str
+    ensures { result.now ≡ operator_text op }
+{
     match op {
         BinaryOp::Or => "or",
         BinaryOp::And => "and",
@@ -65,7 +96,9 @@ pub fn operator_text(op: BinaryOp) -> &'static str {
 }
 
 /// How closely an operator binds.
-pub fn operator_level(op: BinaryOp) -> Level {
+pub fn operator_level(op: BinaryOp) -> Level
+    ensures { result ≡ operator_level op }
+{
     match op {
         BinaryOp::Or => Level::Or,
         BinaryOp::And => Level::And,

@@ -1,5 +1,8 @@
 //! Reading statements.
 
+ghost use Rattle.std.specs.Prelude.{◌≡◌};
+ghost use Rattle.author_text.specs.PrintedSource.{plain_text};
+
 use crate::parser::Parser;
 use crate::place::Place;
 use crate::source::{Expr, Name, Plain, SetOp, Stmt, Thing};
@@ -21,7 +24,9 @@ const PLAIN: [Plain; 8] = [
 ];
 
 /// How a statement that is one word is written.
-pub fn plain_text(plain: Plain) -> &'static str {
+pub fn plain_text(plain: Plain) -> &'static str
+    ensures { result.now ≡ plain_text plain }
+{
     match plain {
         Plain::Flush => "flush",
         Plain::Pass => "pass",
