@@ -31,7 +31,7 @@ fn def_named(source: &Source<'_>, name: &[u8]) -> Option<usize> {
 }
 
 impl<'a, 's> Changes<'a, 's> {
-    /// Adds the names that a block sets, and the `def`s that it runs add theirs, each once.
+    /// AddsText the names that a block sets, and the `def`s that it runs add theirs, each once.
     #[cycle(sets)]
     fn add_set(&mut self, body: &[source::Stmt<'a>], depth: usize) {
         if depth == 0 {
@@ -58,7 +58,7 @@ impl<'a, 's> Changes<'a, 's> {
         }
     }
 
-    /// Adds what the `def` of this name sets, unless it was seen.
+    /// AddsText what the `def` of this name sets, unless it was seen.
     #[cycle(sets)]
     fn add_run(&mut self, name: &[u8], depth: usize) {
         if depth == 0 {

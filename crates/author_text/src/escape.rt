@@ -79,7 +79,7 @@ pub fn front(text: &[u8], count: usize) -> &[u8] {
     &text[..count.min(text.len())]
 }
 
-/// Adds the bytes of what stood in quotes.
+/// AddsText the bytes of what stood in quotes.
 pub fn push_bytes(bytes: &mut Vec<u8>, text: &[u8]) -> Result<(), AllocError> {
     let mut rest = text;
     for _ in 0..text.len() {

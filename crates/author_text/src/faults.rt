@@ -11,7 +11,7 @@ pub struct Faults {
     first: Option<Refusal>,
 }
 
-/// Adds the bytes of a word of the text, which are all below 0x7F.
+/// AddsText the bytes of a word of the text, which are all below 0x7F.
 fn push_word(what: &mut String, word: &[u8]) -> Result<(), AllocError> {
     for byte in word {
         what.push(char::from(*byte))?;
@@ -30,7 +30,7 @@ fn joined(alloc: Global, before: &[&str], word: &[u8], after: &str) -> Result<St
     Ok(what)
 }
 
-/// Adds the line from which a `def` runs, unless one is there.
+/// AddsText the line from which a `def` runs, unless one is there.
 fn add_def(alloc: Global, what: &mut String, line: usize) -> Result<(), AllocError> {
     if what.as_str().ends_with(")") {
         return Ok(());
@@ -85,7 +85,7 @@ impl Faults {
         self.add(place, said);
     }
 
-    /// Adds an item to a list, where there is memory for it.
+    /// AddsText an item to a list, where there is memory for it.
     pub fn append<T: Drop>(&mut self, list: &mut Vec<T>, item: T) {
         if list.push(item).is_err() {
             self.no_memory();

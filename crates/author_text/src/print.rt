@@ -3,10 +3,13 @@
 ghost use Rattle.std.specs.Prelude.{◌≡◌, ◌∷◌, [], ◌++◌, IfOk, codes, decimal, map};
 ghost use Rattle.std.specs.List.{flat_map};
 ghost use Rattle.byte_text.specs.Quoted.{spelling};
-ghost use Rattle.author_text.specs.Adding.{Adds};
+ghost use Rattle.author_text.specs.Adding.{AddsText};
 ghost use Rattle.author_text.specs.Printed.{expr_text, hold_or_it, level_of, within_text};
-ghost use Rattle.author_text.specs.PrintedSource.{change_text, conn_text, plain_text, event_text, block_of, body_text, decl_text, handler_text, line, listed, optional_text, other_text, put_word, source_text, stmt_text, text_text, thing_text, trigger_text, walk_text, IsSimple, is_choice};
-ghost use Rattle.author_text.specs.Trees.{decl_of, expr_of, handler_of, name_of, names_of, source_of, stmt_of, stmts_of, text_of, thing_of, trigger_of};
+ghost use Rattle.author_text.specs.PrintedSource.{block_of, body_text, change_text, is_choice, IsSimple, optional_text, other_text};
+ghost use Rattle.author_text.specs.PrintedSource.{plain_text, put_word, stmt_text, thing_text, walk_text};
+ghost use Rattle.author_text.specs.PrintedSource.{conn_text, event_text, decl_text, handler_text, line, listed, source_text, text_text, trigger_text};
+ghost use Rattle.author_text.specs.Trees.{decl_of, expr_of, handler_of, name_of, names_of};
+ghost use Rattle.author_text.specs.Trees.{source_of, stmt_of, stmts_of, text_of, thing_of, trigger_of};
 
 use crate::grammar::event_text;
 use crate::operators::{Level, closer, left_level, operator_level, operator_text, rank};
@@ -73,7 +76,7 @@ fn change_text(op: SetOp) -> &'static str
 
 impl Printer {
     fn push(&mut self, bytes: &[u8])
-        ensures { Adds self.old self.new bytes.now }
+        ensures { AddsText self.old self.new bytes.now }
     {
         if self.out.extend_from_slice(bytes).is_err() {
             self.is_whole = false;
@@ -82,7 +85,7 @@ impl Printer {
 
     /// A name behind a word.
     fn name(&mut self, word: &[u8], name: Name<'_>)
-        ensures { Adds self.old self.new (word.now ++ name_of name.entry) }
+        ensures { AddsText self.old self.new (word.now ++ name_of name.entry) }
     {
         self.push(word);
         self.push(name.text);
@@ -90,7 +93,7 @@ impl Printer {
 
     /// A name, or `it` where there is none.
     fn hold_or_it(&mut self, name: Option<Name<'_>>)
-        ensures { Adds self.old self.new (hold_or_it (names_of name.entry)) }
+        ensures { AddsText self.old self.new (hold_or_it (names_of name.entry)) }
     {
         match name {
             Some(name) => self.push(name.text),
@@ -100,7 +103,7 @@ impl Printer {
 
     /// A name behind a word, where there is one.
     fn optional_name(&mut self, word: &[u8], name: Option<Name<'_>>)
-        ensures { Adds self.old self.new (optional_text word.now (names_of name.entry)) }
+        ensures { AddsText self.old self.new (optional_text word.now (names_of name.entry)) }
     {
         if let Some(name) = name {
             self.name(word, name);
@@ -109,7 +112,7 @@ impl Printer {
 
     /// A number in decimal digits.
     fn number(&mut self, value: u32)
-        ensures { Adds self.old self.new (decimal value) }
+        ensures { AddsText self.old self.new (decimal value) }
     {
         match format!(in self.alloc; "{value}") {
             Ok(digits) => self.push(digits.as_bytes()),
@@ -118,7 +121,7 @@ impl Printer {
     }
 
     fn quoted(&mut self, bytes: &[u8])
-        ensures { Adds self.old self.new (spelling bytes.now) }
+        ensures { AddsText self.old self.new (spelling bytes.now) }
     {
         if push_spelling(&mut self.out, bytes).is_err() {
             self.is_whole = false;
@@ -126,7 +129,7 @@ impl Printer {
     }
 
     fn text(&mut self, text: &Text<'_>)
-        ensures { Adds self.old self.new (text_text (text_of text.now)) }
+        ensures { AddsText self.old self.new (text_text (text_of text.now)) }
     {
         match text {
             Text::Quoted { bytes, .. } => self.quoted(bytes.as_slice()),
@@ -137,7 +140,7 @@ impl Printer {
     /// An expression where one stands that binds so closely at least.
     #[cycle(exprs)]
     fn within(&mut self, expr: &Expr<'_>, level: Level)
-        ensures { Adds self.old self.new (within_text (expr_of expr.now) level) }
+        ensures { AddsText self.old self.new (within_text (expr_of expr.now) level) }
     {
         if rank(level_of(expr)) < rank(level) {
             self.push(b"(");
@@ -150,7 +153,7 @@ impl Printer {
 
     #[cycle(exprs)]
     fn expr(&mut self, expr: &Expr<'_>)
-        ensures { Adds self.old self.new (expr_text (expr_of expr.now)) }
+        ensures { AddsText self.old self.new (expr_text (expr_of expr.now)) }
     {
         match expr {
             Expr::Number { value, .. } => self.number(*value),
@@ -198,14 +201,14 @@ impl Printer {
 
     /// An expression behind a word.
     fn behind(&mut self, word: &[u8], expr: &Expr<'_>)
-        ensures { Adds self.old self.new (word.now ++ expr_text (expr_of expr.now)) }
+        ensures { AddsText self.old self.new (word.now ++ expr_text (expr_of expr.now)) }
     {
         self.push(word);
         self.expr(expr);
     }
 
     fn thing(&mut self, thing: &Thing<'_>)
-        ensures { Adds self.old self.new (thing_text (thing_of thing.now)) }
+        ensures { AddsText self.old self.new (thing_text (thing_of thing.now)) }
     {
         match thing {
             Thing::Text(text) => self.text(text),
@@ -227,7 +230,7 @@ impl Printer {
     /// What follows `else`, if anything does.
     #[cycle(stmts)]
     fn other(&mut self, other: &[Stmt<'_>])
-        ensures { Adds self.old self.new (other_text (stmts_of other.now)) }
+        ensures { AddsText self.old self.new (other_text (stmts_of other.now)) }
     {
         match other {
             [] => {}
@@ -246,7 +249,7 @@ impl Printer {
     /// A block behind what is written before it.
     #[cycle(stmts)]
     fn block(&mut self, before: &[u8], body: &[Stmt<'_>])
-        ensures { Adds self.old self.new (before.now ++ block_of (body_text (stmts_of body.now))) }
+        ensures { AddsText self.old self.new (before.now ++ block_of (body_text (stmts_of body.now))) }
     {
         self.push(before);
         self.push(b"{\n");
@@ -257,7 +260,7 @@ impl Printer {
     /// Statements, each on lines of its own.
     #[cycle(stmts)]
     fn lines(&mut self, body: &[Stmt<'_>])
-        ensures { Adds self.old self.new (flat_map (λ s. line (stmt_text (stmt_of s))) body.now) }
+        ensures { AddsText self.old self.new (flat_map (λ s. line (stmt_text (stmt_of s))) body.now) }
     {
         for stmt in body {
             self.stmt(stmt);
@@ -267,7 +270,7 @@ impl Printer {
 
     #[cycle(stmts)]
     fn stmt(&mut self, stmt: &Stmt<'_>)
-        ensures { Adds self.old self.new (stmt_text (stmt_of stmt.now)) }
+        ensures { AddsText self.old self.new (stmt_text (stmt_of stmt.now)) }
     {
         match stmt {
             Stmt::If {
@@ -316,7 +319,7 @@ impl Printer {
 
     /// What stands before the block of `for`.
     fn walk(&mut self, byte: Name<'_>, index: Option<Name<'_>>, over: Option<Name<'_>>)
-        ensures { Adds self.old self.new (walk_text (name_of byte.entry) (names_of index.entry) (names_of over.entry)) }
+        ensures { AddsText self.old self.new (walk_text (name_of byte.entry) (names_of index.entry) (names_of over.entry)) }
     {
         self.name(b"for byte ", byte);
         self.optional_name(b" at ", index);
@@ -327,7 +330,7 @@ impl Printer {
     /// A statement in which none stands.
     fn simple(&mut self, stmt: &Stmt<'_>)
         requires { IsSimple (stmt_of stmt.now) }
-        ensures { Adds self.old self.new (stmt_text (stmt_of stmt.now)) }
+        ensures { AddsText self.old self.new (stmt_text (stmt_of stmt.now)) }
     {
         match stmt {
             Stmt::Let { name, value } => self.set(b"let ", *name, " = ", value),
@@ -350,7 +353,7 @@ impl Printer {
 
     /// A name behind a word, and a number behind what stands between them.
     fn set(&mut self, word: &[u8], name: Name<'_>, op: &str, value: &Expr<'_>)
-        ensures { Adds self.old self.new (word.now ++ name_of name.entry ++ op.now ++ expr_text (expr_of value.now)) }
+        ensures { AddsText self.old self.new (word.now ++ name_of name.entry ++ op.now ++ expr_text (expr_of value.now)) }
     {
         self.name(word, name);
         self.behind(op.as_bytes(), value);
@@ -358,7 +361,7 @@ impl Printer {
 
     /// Numbers in brackets, with commas between them.
     fn args(&mut self, args: &[Expr<'_>])
-        ensures { Adds self.old self.new (listed expr_text (map expr_of args.now)) }
+        ensures { AddsText self.old self.new (listed expr_text (map expr_of args.now)) }
     {
         match args {
             [] => self.push(b"()"),
@@ -371,7 +374,7 @@ impl Printer {
     }
 
     fn more_args(&mut self, args: &[Expr<'_>])
-        ensures { Adds self.old self.new (flat_map (λ e. codes ", " ++ expr_text (expr_of e)) args.now) }
+        ensures { AddsText self.old self.new (flat_map (λ e. codes ", " ++ expr_text (expr_of e)) args.now) }
     {
         for arg in args {
             self.behind(b", ", arg);
@@ -379,7 +382,8 @@ impl Printer {
     }
 
     fn put(&mut self, thing: &Thing<'_>, to: Option<Name<'_>>)
-        ensures { Adds self.old self.new (put_word (names_of to.entry) ++ thing_text (thing_of thing.now) ++ optional_text (codes " in ") (names_of to.entry)) }
+        ensures { AddsText self.old self.new (put_word (names_of to.entry) ++ thing_text (thing_of thing.now)
+            ++ optional_text (codes " in ") (names_of to.entry)) }
     {
         match to {
             Some(name) => {
@@ -395,7 +399,7 @@ impl Printer {
     }
 
     fn log(&mut self, is_conn: bool, text: &Text<'_>)
-        ensures { Adds self.old self.new (codes "log " ++ conn_text is_conn ++ text_text (text_of text.now)) }
+        ensures { AddsText self.old self.new (codes "log " ++ conn_text is_conn ++ text_text (text_of text.now)) }
     {
         self.push(b"log ");
         self.conn(is_conn);
@@ -404,7 +408,7 @@ impl Printer {
 
     /// `conn`, where something lasts as long as the connection.
     fn conn(&mut self, is_conn: bool)
-        ensures { Adds self.old self.new (conn_text is_conn) }
+        ensures { AddsText self.old self.new (conn_text is_conn) }
     {
         if is_conn {
             self.push(b"conn ");
@@ -412,7 +416,7 @@ impl Printer {
     }
 
     fn decl(&mut self, decl: &Decl<'_>)
-        ensures { Adds self.old self.new (decl_text (decl_of decl.now)) }
+        ensures { AddsText self.old self.new (decl_text (decl_of decl.now)) }
     {
         match decl {
             Decl::Var {
@@ -464,7 +468,7 @@ impl Printer {
 
     /// The names of the parameters of a `def`.
     fn names(&mut self, names: &[Name<'_>])
-        ensures { Adds self.old self.new (listed (λ n. n) (map name_of names.now)) }
+        ensures { AddsText self.old self.new (listed (λ n. n) (map name_of names.now)) }
     {
         match names {
             [] => self.push(b"()"),
@@ -477,7 +481,7 @@ impl Printer {
     }
 
     fn more_names(&mut self, names: &[Name<'_>])
-        ensures { Adds self.old self.new (flat_map (λ n. codes ", " ++ name_of n) names.now) }
+        ensures { AddsText self.old self.new (flat_map (λ n. codes ", " ++ name_of n) names.now) }
     {
         for name in names {
             self.name(b", ", *name);
@@ -485,7 +489,7 @@ impl Printer {
     }
 
     fn trigger(&mut self, on: &Trigger<'_>)
-        ensures { Adds self.old self.new (trigger_text (trigger_of on.now)) }
+        ensures { AddsText self.old self.new (trigger_text (trigger_of on.now)) }
     {
         match on {
             Trigger::Event(event) => {
@@ -502,7 +506,7 @@ impl Printer {
 
     /// Declarations, each on lines of its own.
     fn decls(&mut self, decls: &[Decl<'_>])
-        ensures { Adds self.old self.new (flat_map (λ d. line (decl_text (decl_of d))) decls.now) }
+        ensures { AddsText self.old self.new (flat_map (λ d. line (decl_text (decl_of d))) decls.now) }
     {
         for decl in decls {
             self.decl(decl);
@@ -512,7 +516,7 @@ impl Printer {
 
     /// Handlers, each on lines of its own.
     fn handlers(&mut self, handlers: &[Handler<'_>])
-        ensures { Adds self.old self.new (flat_map (λ h. line (handler_text (handler_of h))) handlers.now) }
+        ensures { AddsText self.old self.new (flat_map (λ h. line (handler_text (handler_of h))) handlers.now) }
     {
         for handler in handlers {
             self.trigger(&handler.on);
