@@ -1,2 +1,3 @@
 pub mod AddsLaws
 pub mod PrintedLaws
+pub mod ReadingLaws

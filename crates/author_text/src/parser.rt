@@ -1,5 +1,9 @@
 //! Reading tokens one by one.
 
+ghost use Rattle.std.specs.Prelude.{◌≡◌, ◌∷◌, ℕ, List, ⊤, true, if◌then◌else◌};
+ghost use Rattle.author_text.specs.Reading.{HasLeft, IsOut, Reads, is_at};
+ghost use Rattle.author_text.specs.Tokens.{TokenTree, name_token, token_of};
+
 use crate::escape::push_bytes;
 use crate::faults::Faults;
 use crate::source::{Name, Text};
@@ -40,7 +44,9 @@ impl<'a, 't> Parser<'a, 't> {
     }
 
     /// The next token.
-    pub fn token(&self) -> Token<'a> {
+    pub fn token(&self) -> Token<'a>
+        ensures next { (t : TokenTree) (ts : List TokenTree) → HasLeft self.now (t ∷ ts) → token_of result ≡ t }
+    {
         if self.faults.is_any() {
             return self.end;
         }
@@ -48,7 +54,10 @@ impl<'a, 't> Parser<'a, 't> {
     }
 
     /// The next token, which is passed.
-    pub fn take(&mut self) -> Token<'a> {
+    pub fn take(&mut self) -> Token<'a>
+        ensures kept { IsOut self.old.faults → IsOut self.new.faults }
+        ensures taken { (t : TokenTree) (ts : List TokenTree) → Reads self.old (t ∷ ts) ⊤ → Reads self.new ts (token_of result ≡ t) }
+    {
         let token = self.token();
         self.next = self.next.saturating_add(1);
         token
@@ -63,13 +72,18 @@ impl<'a, 't> Parser<'a, 't> {
     }
 
     /// Whether this word or mark is next.
-    pub fn at(&self, text: &str) -> bool {
+    pub fn at(&self, text: &str) -> bool
+        ensures { (t : TokenTree) (ts : List TokenTree) → HasLeft self.now (t ∷ ts) → result ≡ is_at t text.now }
+    {
         let token = self.token();
         matches!(token.kind, Kind::Word | Kind::Mark) && token.text == text.as_bytes()
     }
 
     /// Passes this word or mark, if it is next.
-    pub fn eat(&mut self, text: &str) -> bool {
+    pub fn eat(&mut self, text: &str) -> bool
+        ensures kept { IsOut self.old.faults → IsOut self.new.faults }
+        ensures eaten { (t : TokenTree) (ts : List TokenTree) → Reads self.old (t ∷ ts) ⊤ → Reads self.new (if is_at t text.now then ts else t ∷ ts) (result ≡ is_at t text.now) }
+    {
         let is_next = self.at(text);
         if is_next {
             self.next = self.next.saturating_add(1);
@@ -88,20 +102,26 @@ impl<'a, 't> Parser<'a, 't> {
     }
 
     /// What is wrong with the next token.
-    pub fn says(&mut self, what: &str) {
+    pub fn says(&mut self, what: &str)
+        ensures { IsOut self.old.faults → IsOut self.new.faults }
+    {
         let place = self.token().place;
         self.faults.says(place, what);
     }
 
     /// What is wrong with the next token, which stands between these words.
-    pub fn says_of(&mut self, before: &[&str], after: &str) {
+    pub fn says_of(&mut self, before: &[&str], after: &str)
+        ensures { IsOut self.old.faults → IsOut self.new.faults }
+    {
         let place = self.token().place;
         let shown = self.shown();
         self.faults.says_of(place, before, shown, after);
     }
 
     /// Something is due in place of the next token.
-    pub fn due(&mut self, due: &str) {
+    pub fn due(&mut self, due: &str)
+        ensures { IsOut self.old.faults → IsOut self.new.faults }
+    {
         self.says_of(&[due, " is due here, not `"], "`");
     }
 
@@ -111,28 +131,49 @@ impl<'a, 't> Parser<'a, 't> {
     }
 
     /// Passes this word or mark, which must be next.
-    pub fn need(&mut self, text: &str) {
+    pub fn need(&mut self, text: &str)
+        ensures kept { IsOut self.old.faults → IsOut self.new.faults }
+        ensures passed { (t : TokenTree) (ts : List TokenTree) → is_at t text.now ≡ true → Reads self.old (t ∷ ts) ⊤ → Reads self.new ts ⊤ }
+    {
         if !self.eat(text) {
-            if text == "{" && self.at("=") {
-                self.says("numbers are compared with `==`");
-            }
-            self.says_of(&["`", text, "` is due here, not `"], "`");
+            self.needed(text);
         }
     }
 
+    /// What is wrong where this word or mark is not next.
+    fn needed(&mut self, text: &str)
+        ensures { IsOut self.old.faults → IsOut self.new.faults }
+    {
+        if text == "{" && self.at("=") {
+            self.says("numbers are compared with `==`");
+        }
+        self.says_of(&["`", text, "` is due here, not `"], "`");
+    }
+
     /// The name that must be next.
-    pub fn name(&mut self, due: &str) -> Name<'a> {
+    pub fn name(&mut self, due: &str) -> Name<'a>
+        ensures kept { IsOut self.old.faults → IsOut self.new.faults }
+        ensures read { (n : List ℕ) (ts : List TokenTree) → Reads self.old (name_token n ∷ ts) ⊤ → Reads self.new ts (result.text.now ≡ n) }
+    {
         let token = self.token();
-        match token.kind {
+        self.pass_name(token.kind, due);
+        Name {
+            text: token.text,
+            place: token.place,
+        }
+    }
+
+    /// Passes the next token, which is of this kind, where that is a name.
+    fn pass_name(&mut self, kind: Kind, due: &str)
+        ensures kept { IsOut self.old.faults → IsOut self.new.faults }
+        ensures passed { (t : TokenTree) (ts : List TokenTree) → kind ≡ Kind.Name → HasLeft self.old (t ∷ ts) → Reads self.new ts ⊤ }
+    {
+        match kind {
             Kind::Name => {
                 self.take();
             }
             Kind::Word => self.says_of(&[due, " is due here; `"], "` is a word of the language"),
             _ => self.due(due),
-        }
-        Name {
-            text: token.text,
-            place: token.place,
         }
     }
 
