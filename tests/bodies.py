@@ -68,7 +68,7 @@ def play_bodies(program, told):
     count = 0
     chance = random.Random('bodies')
     for name, paths, test in chains():
-        sent, _ = filters.tests(test)
+        sent, *_ = filters.tests(test)
         for number, requests in enumerate(sent):
             body, due = requests[0]
             for how, found in (('from a file', filtered(program, paths, body)), ('in pieces', in_pieces(program, paths, body, chance))):
