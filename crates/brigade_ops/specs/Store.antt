@@ -7,9 +7,9 @@ use Rattle.bucket_ring.specs.Lists.{list_at, found}
 use Rattle.bucket_kinds.specs.declared.stored.Stored.{Stored}
 use Rattle.run_model.specs.declared.bucket.Bucket.{Bucket}
 use Rattle.brigade_ops.specs.declared.store.Brigades.{Brigades}
-use Rattle.stored_rings.specs.Items.{Items}
+use Rattle.bucket_store.specs.Items.{Items}
 use Rattle.name_table.specs.NameTable.{value_in}
-use Rattle.stored_rings.specs.Shelf.{seen, IsGivenUp}
+use Rattle.bucket_store.specs.BucketStore.{seen, IsGivenUp}
 
 module _ {R : Type 0} {g : Ghosts R Stored} where
   -- the buckets of each brigade, by its name; None where there is no such brigade

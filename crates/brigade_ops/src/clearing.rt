@@ -16,7 +16,7 @@ use bucket_ring::{BucketId, Rings};
 use pool_tree::{ClearKind, PoolId, PoolTree};
 use run_model::{Bucket, Home, Kind, Payload, Seq};
 use std::alloc::AllocError;
-use stored_rings::Morph;
+use bucket_store::Morph;
 
 /// Whether a clear of a pool changes a bucket of this kind and home.
 pub(crate) fn depends_on(reached: &Reached, kind: Kind, home: Home) -> bool

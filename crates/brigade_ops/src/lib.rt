@@ -24,7 +24,7 @@ pub use morphs::Morphs;
 pub use pool_tree::{ClearKind, PoolId, PoolTree};
 pub use run_model::{Bucket, Content, Home, Kind, Payload, Seq};
 pub use store::{BrigadeId, Brigades};
-pub use stored_rings::{
+pub use bucket_store::{
     ContentView, Cut, Point, ReadRefusal, SplitRefusal, View, lists_are_the_models,
     points_are_the_models, worked_changes,
 };

@@ -1,6 +1,7 @@
 //! What every text of this project is made of: lines, words, the spaces before a line, decimals, and texts in quotes.
 #![tactic(auto)]
 
+mod block_bytes;
 mod bytes;
 mod line_reader;
 mod number;
@@ -8,6 +9,7 @@ mod quoted;
 mod text_line;
 mod writer;
 
+pub use block_bytes::BlockBytes;
 pub use bytes::{
     after_token, all_printable, begins, cut_token, is_printable, is_text, len_before, tail, token,
     unindented,

@@ -7,7 +7,7 @@ use crate::host::Host;
 use bucket_kinds::{Files, Stored};
 use bucket_ring::Rings;
 use module_run::Conn;
-use ring_calls::asks::is_spent;
+use interp_state::asks::is_spent;
 use run_model::Refusal;
 
 /// Whether no connection can have a number behind this one.

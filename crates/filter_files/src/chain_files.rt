@@ -9,7 +9,7 @@ use crate::start_error::{StartCause, StartError, cannot_read, told};
 use author_compile::Compiled;
 use byte_streams::CountedSource;
 use life_check::CheckedChain;
-use module_tools::{CommandOutput, Loaded, NamedFile, PlayFault, load_part};
+use module_commands::{CommandOutput, Loaded, NamedFile, PlayFault, load_part};
 use script_text::{Refused, ScriptModule, accept_parts, put_refused_module};
 use std::alloc::{AllocError, Global};
 use std::rt::Files as FileSystem;

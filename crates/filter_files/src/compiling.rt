@@ -14,7 +14,7 @@ use author_text::{Refusal, place_in, read_source, resolve_source};
 use byte_streams::{CountedSource, Source};
 use life_check::CheckRefusal;
 use module_lang::AsmRefusal;
-use module_tools::{PlayFault, read_all};
+use module_commands::{PlayFault, read_all};
 use script_text::{put_asm_fault, put_refused_at};
 use std::alloc::{AllocError, Global};
 

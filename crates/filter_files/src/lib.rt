@@ -14,4 +14,4 @@ pub use chain_files::{is_filter_name, read_chain};
 pub use compile_command::{compile_output, run_compile};
 pub use compiling::{FilterFault, FilterRead, read_filter};
 pub use settings::{ParamSetting, setting_of, unused_setting};
-pub use start_error::{StartCause, StartError, cannot_read, tell_stop, told, told_for};
+pub use start_error::{StartCause, StartError, cannot_read, write_stop, told, told_for};

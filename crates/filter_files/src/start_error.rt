@@ -1,7 +1,7 @@
 //! Why a command does not start, and what is told of it.
 
 use byte_text::put_all;
-use module_tools::PlayFault;
+use module_commands::PlayFault;
 use std::alloc::{AllocError, Global};
 use std::process::ExitCode;
 use std::{fmt, io};
@@ -82,7 +82,7 @@ fn is_told<R: Print>(rt: &R, fault: PlayFault) -> bool {
 }
 
 /// Ends with a line on the standard output and its cause on the standard error, or with a line there on a fault of the standard output.
-pub fn tell_stop<R: Print + Eprint>(rt: &R, stop: StartError) -> ExitCode {
+pub fn write_stop<R: Print + Eprint>(rt: &R, stop: StartError) -> ExitCode {
     let (told, cause) = match stop {
         StartError::Told(line, cause) => (is_put(rt, line.as_slice()), cause),
         StartError::NoMemory => (is_told(rt, PlayFault::NoMemory), StartCause::Told),

@@ -3,7 +3,7 @@
 use byte_streams::StdSink;
 use clap::Error;
 use clap::error::ErrorKind;
-use module_tools::{Ended, PlayFault, write_text};
+use module_commands::{Ended, PlayFault, write_text};
 use std::io;
 use std::process::ExitCode;
 
@@ -61,7 +61,7 @@ pub fn end_unset(rt: &HostRuntime, word: &str) -> ExitCode {
 }
 
 /// Tells what is of use beside an answer.
-pub fn tell_notes(rt: &HostRuntime, notes: &[u8]) {
+pub fn write_notes(rt: &HostRuntime, notes: &[u8]) {
     let _ = write_text(&mut StdSink::new(rt.stderr()), notes);
 }
 
@@ -72,6 +72,6 @@ pub fn end_refused(rt: &HostRuntime, line: &[u8], notes: &[u8]) -> ExitCode {
         Ok(()) => Ok(Ended::Refused),
         Err(fault) => Err(fault),
     };
-    tell_notes(rt, notes);
+    write_notes(rt, notes);
     end(rt, ended, "", None)
 }

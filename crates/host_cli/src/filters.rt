@@ -1,9 +1,9 @@
 //! Filters in the language for authors: they are compiled, and what is refused of them is told.
 
-use crate::endings::{end, end_refused, tell_notes};
+use crate::endings::{end, end_refused, write_notes};
 use byte_streams::{CountedSource, StdSink};
 use filter_files::{FilterFault, ParamSetting, compile_output, run_compile, unused_setting};
-use module_tools::{CommandOutput, Ended, NamedFile, PlayFault};
+use module_commands::{CommandOutput, Ended, NamedFile, PlayFault};
 use std::alloc::AllocError;
 use std::process::ExitCode;
 
@@ -56,7 +56,7 @@ pub fn compile_file(
     let mut notes = Vec::new(rt.alloc());
     let compiled = run_compile(rt.alloc(), &mut reader, settings, &mut writer, &mut notes);
     if helps || !matches!(compiled, Ok(Ended::Refused)) {
-        tell_notes(rt, notes.as_slice());
+        write_notes(rt, notes.as_slice());
     }
     end(rt, compiled, file, reader.source().reader.fault())
 }

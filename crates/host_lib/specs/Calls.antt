@@ -5,7 +5,7 @@ use Rattle.run_model.specs.declared.event.Event.{Event}
 use Rattle.run_model.specs.declared.event.Event.TheVariants.{Begin, Bring, Close, End, Open}
 use Rattle.run_model.specs.declared.event.Refusal.{Refusal}
 use Rattle.run_model.specs.declared.event.Stepped.{Stepped}
-use Rattle.ring_run.specs.declared.labels_run.LabelsRun.{LabelsRun}
+use Rattle.interp_exec.specs.declared.labels_run.LabelsRun.{LabelsRun}
 use Rattle.filter_chain.specs.Hosting.{close_answer, done_answer, open_answer}
 use Rattle.host_lib.specs.Adding.{TellsPiece}
 use Rattle.host_lib.specs.Codes.{close_code, done_code, number_in, only, open_code, piece_code, run_code, told_of}

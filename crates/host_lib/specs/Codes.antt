@@ -14,7 +14,7 @@ use Rattle.run_model.specs.declared.event.Cause.{Cause}
 use Rattle.run_model.specs.declared.event.Cause.TheVariants as cause
 use Rattle.run_model.specs.declared.event.Stepped.{Stepped}
 use Rattle.run_model.specs.declared.event.Stepped.TheVariants as stepped
-use Rattle.ring_run.specs.declared.labels_run.LabelsRun.{LabelsRun}
+use Rattle.interp_exec.specs.declared.labels_run.LabelsRun.{LabelsRun}
 use Rattle.host_lib.specs.declared.pieces.PieceRefusal.{PieceRefusal}
 use Rattle.host_lib.specs.declared.pieces.PieceRefusal.TheVariants as piece
 use Rattle.host_lib.specs.declared.loading.LoadRefusal.{LoadRefusal}

@@ -9,7 +9,7 @@ use Rattle.httparse.specs.declared.spans.RequestSpans.{RequestSpans}
 use Rattle.http_message.specs.Asking.{method_of, refusal}
 use Rattle.http_message.specs.Clocks.{Said}
 use Rattle.http_message.specs.Heads.{BeginsWithin}
-use Rattle.http_message.specs.Inboxes.{unread}
+use Rattle.http_message.specs.ReadBuffers.{unread}
 use Rattle.http_message.specs.Looking.{IsHeadFound}
 use Rattle.http_message.specs.declared.reply.Method.{Method}
 use Rattle.http_message.specs.declared.reply.Reply.{Reply}
@@ -66,22 +66,22 @@ module _ {K : Type 0} (tells : K → Said → K → Type 0) (before after : K) w
 pub pending_all : {T : Type 0} (c : HttpConn T) (t : ResponseText) → c.sent ≡ 0 → c.text ≡ t → pending c ≡ text_of t
 pending_all c t none is = subst (λ (n : ℕ). drop n (text_of c.text) ≡ text_of t) (sym none) (ap text_of is)
 
-pub follows_as : {T : Type 0} (s : ServeStep) (a b new : HttpConn T) → a.inbox ≡ b.inbox → a.wants ≡ b.wants → a.requests ≡ b.requests → StepFollows s a new → StepFollows s b new
-follows_as (step.Stays size) a b new inbox wants count f = record {
-  still = f.still ∙ ap (λ i. drop size (unread i)) inbox;
-  wants = f.wants ∙ wants;
+pub follows_as : {T : Type 0} (s : ServeStep) (a b new : HttpConn T) → a.read_buffer ≡ b.read_buffer → a.needs_input ≡ b.needs_input → a.requests ≡ b.requests → StepFollows s a new → StepFollows s b new
+follows_as (step.Stays size) a b new read_buffer needs_input count f = record {
+  still = f.still ∙ ap (λ i. drop size (unread i)) read_buffer;
+  needs_input = f.needs_input ∙ needs_input;
   over = f.over;
   counted = f.counted ∙ ap one_more count;
 }
-follows_as (step.Closes size) a b new inbox wants count f = record {
-  still = f.still ∙ ap (λ i. drop size (unread i)) inbox;
-  wants = f.wants ∙ wants;
+follows_as (step.Closes size) a b new read_buffer needs_input count f = record {
+  still = f.still ∙ ap (λ i. drop size (unread i)) read_buffer;
+  needs_input = f.needs_input ∙ needs_input;
   over = f.over;
   counted = f.counted ∙ ap one_more count;
 }
-follows_as step.Refused a b new inbox wants count f = record { still = f.still ∙ ap unread inbox; wants = f.wants ∙ wants; over = f.over; counted = f.counted ∙ ap one_more count }
-follows_as step.More a b new inbox wants count f = record { still = f.still ∙ ap unread inbox; wants = f.wants; over = f.over; counted = f.counted ∙ count }
-follows_as step.Done a b new inbox wants count f = record { still = f.still ∙ ap unread inbox; wants = f.wants ∙ wants; over = f.over; counted = f.counted ∙ count }
+follows_as step.Refused a b new read_buffer needs_input count f = record { still = f.still ∙ ap unread read_buffer; needs_input = f.needs_input ∙ needs_input; over = f.over; counted = f.counted ∙ ap one_more count }
+follows_as step.More a b new read_buffer needs_input count f = record { still = f.still ∙ ap unread read_buffer; needs_input = f.needs_input; over = f.over; counted = f.counted ∙ count }
+follows_as step.Done a b new read_buffer needs_input count f = record { still = f.still ∙ ap unread read_buffer; needs_input = f.needs_input ∙ needs_input; over = f.over; counted = f.counted ∙ count }
 
 -- A head that nothing refuses wants what its path does.
 pub wants_path : (site : Site) (h : RequestHead) (w : SiteTarget) → refusal h ≡ None → WantsPath site h w → Wants site h w

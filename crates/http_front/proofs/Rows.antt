@@ -25,7 +25,7 @@ use Rattle.http_message.proofs.SitePaths.{path-utf8}
 use Rattle.http_front.specs.Outcomes.{file_of}
 use Rattle.http_front.specs.declared.handler.RequestOutcome.{RequestOutcome}
 use Rattle.http_front.specs.Rows.{Http10, HttpBadHead, HttpConnectionOption, HttpEmptyFile, HttpFailing, HttpGet, HttpGetAbsolute, HttpHead, HttpLargeFile}
-use Rattle.http_front.specs.Rows.{HttpManyFields, HttpMethods, HttpMissing, HttpRequestBody, RepliesAreThese, bad_reply, bare, failed, host, line, many, reply_of}
+use Rattle.http_front.specs.Rows.{HttpManyFields, HttpMethods, HttpMissing, HttpRequestBody, RepliesAreThese, bad_reply, without_body, failed, host, line, many, reply_of}
 use Rattle.http_front.specs.Turns.{fields_limit, head_limit}
 
 -- replies with the same parts
@@ -64,7 +64,7 @@ unfolding sunday days_of_years days_of_months
 replies_are_these = record {
   reply = λ h o r is. same_reply r (reply_of h o) is.status is.version is.method is.closes is.body is.failure;
   bad = λ r is. same_reply r bad_reply is.status is.version is.method is.closes is.body is.failure;
-  without = λ status o is. same_outcome o (bare status) is.0 is.1 is.2;
+  without = λ status o is. same_outcome o (without_body status) is.0 is.1 is.2;
   unserved = λ why o is. same_outcome o (failed why) is.0 is.1 is.2;
   dated = λ text line. line.date sunday (lit< tt) refl;
 }

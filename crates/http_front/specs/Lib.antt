@@ -6,7 +6,7 @@ pub use Rattle.http_message.specs.Replying
 pub use Rattle.http_message.specs.Clocks
 pub use Rattle.http_message.specs.Routes
 pub use Rattle.http_message.specs.Sites
-pub use Rattle.http_message.specs.Inboxes
+pub use Rattle.http_message.specs.ReadBuffers
 pub mod Texts
 pub mod Outcomes
 pub mod Turns

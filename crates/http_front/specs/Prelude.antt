@@ -8,7 +8,7 @@ pub use Rattle.run_model.specs.declared.event.Event.TheVariants.{Open}
 pub use Rattle.filter_chain.specs.HostViews.{Answers, HostView}
 pub use Rattle.http_message.specs.Asking.{method_of}
 pub use Rattle.http_message.specs.Clocks.{IsExchange}
-pub use Rattle.http_message.specs.Inboxes.{unread}
+pub use Rattle.http_message.specs.ReadBuffers.{unread}
 pub use Rattle.http_message.specs.Looking.{IsHeadFound}
 pub use Rattle.http_message.specs.Replying.{IsDateLine, reply_text}
 pub use Rattle.http_message.specs.declared.site.Site.{Site}

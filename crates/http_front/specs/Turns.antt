@@ -176,7 +176,7 @@ module _ {H K : Type 0} (site : Site) (handles : H → Method → List ℕ → R
     pub n : ℕ
     pub splits : stream ≡ first ++ seen ++ unread
     pub responses : EndsAll old before first text n new after
-    pub wants : WantsMore seen
+    pub needs_input : WantsMore seen
     pub leaves : left ≡ Some unread
 
   -- These are the responses to all requests before the one that is at hand. seen: what was read and not answered. left: what the reader has left.
@@ -204,7 +204,7 @@ module _ {H K : Type 0} (site : Site) (handles : H → Method → List ℕ → R
     pub few : length lost ≤ 8192
     pub splits : stream ≡ first ++ seen ++ lost ++ unread
     pub responses : EndsAll old before first text n new after
-    pub wants : WantsMore seen
+    pub needs_input : WantsMore seen
     pub leaves : left ≡ Some unread
 
   -- These are the responses to the first requests of a stream, and a part of one response more: that is cut. Its request was handled, too.

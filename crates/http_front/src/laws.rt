@@ -6,7 +6,7 @@ ghost use Rattle.http_front.specs.Rows.{HttpLargeFile, HttpManyFields, HttpMetho
 
 /// Requests ask for what was worked out by hand, and are answered with the texts that were: heads as values, what refuses them, the path that
 /// they ask for, the whole response at a moment, what is brought of a file, and what a request comes to by how its calls ended.
-pub fn worked_rows()
+pub fn acceptance()
     ensures replies { RepliesAreThese }
     ensures get { HttpGet }
     ensures absolute { HttpGetAbsolute }

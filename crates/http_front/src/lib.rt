@@ -29,7 +29,7 @@ pub use http_message::{
     Clock, Exchange, Failure, HeadLook, Method, Reply, Site, SiteFault, StatusCode, Version,
     closing, decoded, head_closes, look_at, middle, put_opening, refusal, status_closes,
 };
-pub use laws::worked_rows;
+pub use laws::acceptance;
 pub use response::ResponseText;
 pub use running::CallEnd;
 pub use slicing::SLICE_STEPS;

@@ -10,9 +10,9 @@ use crate::listening::{ServeSettings, serve_all};
 use crate::site_reading::read_site;
 use bucket_kinds::DiskFiles;
 use filter_chain::{CheckedChain, Files, Host, Limits, RawRings, Rings, Stored};
-use filter_files::{ParamSetting, StartCause, StartError, read_chain, tell_stop, told, told_for};
+use filter_files::{ParamSetting, StartCause, StartError, read_chain, write_stop, told, told_for};
 use http_message::Site;
-use module_tools::PlayFault;
+use module_commands::PlayFault;
 use std::alloc::{AllocError, Global};
 use std::net::{IpAddr, Net, SocketAddr, TcpListener, TcpStream};
 use std::os::unix::fs::FileExt;
@@ -103,7 +103,7 @@ where
 }
 
 /// The system does not tell what is ready.
-fn tell_events(rt: &impl Eprint) -> ExitCode {
+fn log_events(rt: &impl Eprint) -> ExitCode {
     let _ = rt.eprintln("cannot wait for connections");
     ExitCode::FAILURE
 }
@@ -142,12 +142,12 @@ fn serve_listener<R: Clock + Eprint + AllocGlobal + Net, F: Files + Drop, B: Rin
         return ExitCode::SUCCESS;
     }
     if listener.set_nonblocking(true).is_err() {
-        return tell_events(rt);
+        return log_events(rt);
     }
-    let door = mio::net::TcpListener::from_std(listener);
-    match serve_turns(rt, door, site, host, settings) {
+    let acceptor = mio::net::TcpListener::from_std(listener);
+    match serve_turns(rt, acceptor, site, host, settings) {
         Ok(()) => ExitCode::SUCCESS,
-        Err(_) => tell_events(rt),
+        Err(_) => log_events(rt),
     }
 }
 
@@ -185,7 +185,7 @@ where
 {
     match listen(rt, options) {
         Ok((listener, address)) => serve_behind(rt, options, host, site, listener, address),
-        Err(why) => tell_stop(rt, why),
+        Err(why) => write_stop(rt, why),
     }
 }
 
@@ -228,6 +228,6 @@ where
 {
     match serve_files::<R, RawRings<Stored>>(rt, options) {
         Ok(code) => code,
-        Err(why) => tell_stop(rt, why),
+        Err(why) => write_stop(rt, why),
     }
 }

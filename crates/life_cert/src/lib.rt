@@ -3,7 +3,7 @@
 
 mod draft;
 mod due;
-mod growth;
+mod fixpoint;
 mod handing;
 pub mod laws;
 mod maker;
@@ -18,8 +18,8 @@ mod state_text;
 mod unread;
 mod upgrading;
 
-pub use growth::{Arrival, Growth, StatePlace};
-pub use maker::{grown, make, round_count};
+pub use fixpoint::{Arrival, Fixpoint, StatePlace};
+pub use maker::{least_fixpoint, make, round_count};
 pub use print::print_cert;
 pub use read::read_cert;
 pub use refusal::{CertCode, CertRefusal, MakeRefusal, UpgradeRefusal};

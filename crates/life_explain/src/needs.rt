@@ -4,7 +4,7 @@ ghost use Rattle.std.specs.Prelude.{◌≡◌, true};
 ghost use Rattle.module_code.specs.Program.{fits};
 
 use life_state::{Contents, CursorState, State};
-use line_help::{Doubt, Sort};
+use explain_text::{Doubt, Sort};
 use module_code::{Instr, Module, PoolRef};
 use run_model::{Need, Want, wants};
 

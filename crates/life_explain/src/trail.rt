@@ -3,7 +3,7 @@
 use crate::flow::{FlowEdge, FlowEdges, add_edges_of, is_same, state_at};
 use life_cert::StatePlace;
 use life_check::Cert;
-use line_help::{Doubt, Sort};
+use explain_text::{Doubt, Sort};
 use module_code::Module;
 use std::alloc::Global;
 

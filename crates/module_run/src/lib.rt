@@ -15,7 +15,7 @@ mod conn_pass_to_next;
 mod conn_pass_to_output;
 mod conn_places;
 mod conn_put_out;
-mod conn_quiet;
+mod conn_local;
 mod conn_return;
 mod conn_return_last;
 mod conn_return_to_caller;
@@ -34,5 +34,5 @@ pub use brigade_ops::{
 pub use conn::{Conn, Filter, OpenFile};
 pub use conn_bare::{Bare, step_bare};
 pub use conn_step::step_watched;
-pub use ring_run::LabelsRun;
+pub use interp_exec::LabelsRun;
 pub use run_model::{Bucket, Mark, Payload, PoolVar, Seq, StepRefusal, Stepped};

@@ -9,8 +9,8 @@ use Rattle.bucket_kinds.specs.MemDevice.{device_of}
 use Rattle.life_check.specs.declared.refusal.CheckRefusal.{CheckRefusal}
 use Rattle.filter_chain.specs.HostViews.{HostView, host_view}
 use Rattle.script_text.specs.declared.command.Command.{Command}
-use Rattle.module_tools.specs.declared.ended.Ended.{Ended}
-use Rattle.module_tools.specs.declared.ended.Ended.TheVariants as ended
+use Rattle.module_commands.specs.declared.ended.Ended.{Ended}
+use Rattle.module_commands.specs.declared.ended.Ended.TheVariants as ended
 use Rattle.script_text.specs.declared.reply.CommandReply.{CommandReply}
 use Rattle.script_text.specs.declared.reply.CommandReply.TheVariants as answer
 use Rattle.script_text.specs.declared.texts.LineTaken.{LineTaken}

@@ -7,7 +7,7 @@ ghost use Rattle.script_play.specs.Prelude.{AnswersLinesRead, IsWrittenFor, IsFr
 use crate::player::Player;
 use byte_streams::{CountedSource, READ_BYTES, READS, ReadAnswer, Sink, Source};
 use filter_chain::{RawRings, Rings, Stored};
-use module_tools::{Ended, PlayFault, write_text};
+use module_commands::{Ended, PlayFault, write_text};
 use std::alloc::{AllocError, Global};
 
 /// Plays lines, and writes the answers. Without memory for an answer what was answered so far is written; without memory in the writer, nothing.

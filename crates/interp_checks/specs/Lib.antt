@@ -1,0 +1,5 @@
+pub mod LocalSteps
+pub mod OnlyAsked
+pub mod Prelude
+pub mod ByteRounds
+pub mod Traces
