@@ -66,6 +66,9 @@ static ROWS: &[(Option<&str>, MadeBucket, BucketCall)] = &[
     (None, AB, BucketCall::Aside(false)),
 ];
 
+/// More bytes are shown by their number, and by the first of them.
+const LONGEST: usize = 100;
+
 /// A bucket: its kind, its content, and its home where it has one.
 #[derive(Clone, Copy)]
 struct ShownBucket<'a>(&'a Bucket);
@@ -83,12 +86,21 @@ fn put_kind<W: fmt::Write>(f: &mut fmt::Formatter<W>, kind: Kind) -> fmt::Result
     f.write_str(word)
 }
 
-fn put_content<W: fmt::Write>(f: &mut fmt::Formatter<W>, content: &Content) -> fmt::Result {
-    match content {
-        Content::Bytes(bytes) => match str::from_utf8(bytes.as_slice()) {
+fn put_bytes<W: fmt::Write>(f: &mut fmt::Formatter<W>, bytes: &[u8]) -> fmt::Result {
+    match bytes {
+        [first, ..] if bytes.len() > LONGEST => {
+            write!(f, " {} times \"{}\"", bytes.len(), *first as char)
+        }
+        _ => match str::from_utf8(bytes) {
             Ok(text) => write!(f, " \"{text}\""),
             Err(_) => Err(fmt::Error),
         },
+    }
+}
+
+fn put_content<W: fmt::Write>(f: &mut fmt::Formatter<W>, content: &Content) -> fmt::Result {
+    match content {
+        Content::Bytes(bytes) => put_bytes(f, bytes.as_slice()),
         Content::Range { file, start, len } => write!(f, " {file} from {start}, length {len}"),
         Content::Nothing => Ok(()),
     }

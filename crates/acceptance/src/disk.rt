@@ -1,6 +1,6 @@
 //! Rows of files of a real disk, in the folder where the program runs.
 
-ghost use Rattle.std.specs.Prelude.{◌≡◌, ◌-◌, ◌^◌, ◌<◌, true};
+ghost use Rattle.std.specs.Prelude.{◌≡◌, ◌-◌, ◌+◌, ◌^◌, ◌<◌, true};
 ghost use Rattle.run_model.specs.Cutting.{EndsInFile};
 ghost use Rattle.bucket_kinds.specs.Device.{is_there};
 ghost use Rattle.bucket_kinds.specs.Reading.{IsOpenFor};
@@ -46,25 +46,25 @@ static ROWS: &[ChangedFile] = &[
     },
 ];
 
-/// Ten bytes of an open file, from a byte on.
-fn range(file: FileNo, start: u64) -> Bucket
-    requires { start < 2 ^ 64 - 2 ^ 32 }
-    ensures content { result.content ≡ Content.Range file start 10 }
+/// Bytes of an open file, from a byte on.
+pub(crate) fn range(file: FileNo, start: u64, len: u64) -> Bucket
+    requires { start + len < 2 ^ 64 }
+    ensures content { result.content ≡ Content.Range file start len }
     ensures ends { EndsInFile result.content }
 {
     Bucket {
         kind: Kind::File,
-        content: Content::Range {
-            file,
-            start,
-            len: 10,
-        },
+        content: Content::Range { file, start, len },
         home: Home::Free,
     }
 }
 
 /// Tells what a read made of a bucket.
-fn show_bucket<F: Files>(rt: &HostRuntime, files: &mut F, mut bucket: Bucket) -> Result<()>
+pub(crate) fn show_bucket<F: Files>(
+    rt: &HostRuntime,
+    files: &mut F,
+    mut bucket: Bucket,
+) -> Result<()>
     requires ends { EndsInFile bucket.content }
     requires open { IsOpenFor (F.device files.old) bucket.content }
 {
@@ -77,7 +77,7 @@ fn show_read<F: Files>(rt: &HostRuntime, files: &mut F, file: FileNo, start: u64
     requires there { is_there ((F.device files.old).numbered file) ≡ true }
     requires ends { start < 2 ^ 64 - 2 ^ 32 }
 {
-    show_bucket(rt, files, range(file, start))
+    show_bucket(rt, files, range(file, start, 10))
 }
 
 /// Opens a file, and tells its first ten bytes, or why there is none of that name.

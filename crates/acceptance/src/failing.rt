@@ -8,7 +8,9 @@ use anyhow::Result;
 use byte_streams::{CountedSource, READS, Sink, Source};
 use filter_chain::{Rings, Stored};
 use http_front::FrontKind;
-use module_commands::{Ended, PlayFault, run_assemble, run_certify, run_check, run_new, run_upgrade};
+use module_commands::{
+    Ended, PlayFault, run_assemble, run_certify, run_check, run_new, run_upgrade,
+};
 use script_play::run_play;
 use std::alloc::Global;
 

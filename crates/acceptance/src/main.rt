@@ -1,4 +1,4 @@
-//! Worked values: rows of rings, buckets, brigades, regions, files of a disk, modules and certificates, of responses of the server and of
+//! Worked values: rows of rings, pools, buckets, brigades, regions, files of a disk, modules and certificates, of responses of the server and of
 //! streams that fail, and scripts. What they must print is `stdout`.
 #![tactic(auto)]
 
@@ -10,7 +10,10 @@ mod disk;
 mod failing;
 mod missing;
 mod modules;
+mod names;
 mod pages;
+mod pools;
+mod reads;
 mod regions;
 mod requests;
 mod rings;
@@ -32,10 +35,13 @@ fn show_rows<P: Rings<u8> + Drop, R: Rings<u8> + Drop, S: Rings<Stored> + Drop>(
 ) -> Result<()> {
     commands::commands_alike::<P, R>(rt)?;
     sizes::node_sizes(rt)?;
+    names::names_spent_rings_and_pools::<R>(rt)?;
+    pools::destroy_run_order(rt)?;
     regions::region_spans(rt)?;
     buckets::show_rows(rt)?;
     brigades::show_rows::<S>(rt)?;
     disk::show_rows(rt)?;
+    reads::read_bucket_sizes(rt)?;
     certs::show_rows(rt)?;
     requests::show_rows::<S>(rt)?;
     requests::cut_requests::<S>(rt)?;

@@ -40,6 +40,6 @@ module _ {R : Type 0} {g : Ghosts R Stored} where
   unfoldable pub has_room : Brigades R g → Type 0
   has_room store = g.has_room store.held.rings.rings
 
-  -- No bytes lie in the region of a pool, where it is known that no bucket is noted under it.
+  -- No bytes lie in the region of a pool, if no bucket of the store depends on it: by its kind, its home, or the place where its bytes lie.
   unfoldable pub IsFreed : Brigades R g → ℕ → Type 0
   IsFreed store p = IsGivenUp store.held p

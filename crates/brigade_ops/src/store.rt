@@ -4,9 +4,9 @@ ghost use Rattle.std.specs.Prelude.{◌≡◌, ℕ, None};
 
 use bucket_kinds::Stored;
 use bucket_ring::{RingId, Rings};
+use bucket_store::BucketStore;
 use name_table::NameTable;
 use std::alloc::Global;
-use bucket_store::BucketStore;
 
 /// The name of a brigade, which is never given again.
 pub type BrigadeId = RingId;

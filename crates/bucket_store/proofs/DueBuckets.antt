@@ -18,7 +18,7 @@ use Rattle.bucket_ring.specs.Lists.{same}
 use Rattle.bucket_ring.specs.Laws.{same_name}
 use Rattle.bucket_store.specs.Due.{kind_pool, home_pool, place_reached, kind_reached, home_reached, depends, is_due}
 use Rattle.bucket_store.specs.Morphs.{cleared_as, is_named}
-use Rattle.bucket_store.specs.Noted.{kind_under, home_under, place_under, place_of, is_noted}
+use Rattle.bucket_store.specs.Noted.{kind_under, home_under, place_under, place_of, held_under, is_noted}
 
 other_part : (a b : Bool) → a ≡ false → (a || b) ≡ true → b ≡ true
 other_part true b none some = absurd (false≢true (sym none))
@@ -37,6 +37,20 @@ module _ (reached : ℕ → Bool) (names : ℕ → BucketId → Bool) (id : Buck
       elim (cases_Bool (kind_reached reached x.kind)) [
         | inl lies ↦ by_pool (kind_pool x.kind) one.0 lies
         | inr apart ↦ by_pool (home_pool x.home) two.0 (other_part (kind_reached reached x.kind) (home_reached reached x.home) apart is)
+      ]
+
+  -- also one whose bytes lie in the region of one
+  pub held_one : (x : Stored) → is_noted names (id, x) ≡ true → held_under reached x ≡ true → (p : ℕ) × (reached p ≡ true) × (names p id ≡ true)
+  held_one x noted is =
+      let one = and_parts (kind_under (λ p. names p id) x.kind) (home_under (λ p. names p id) x.home && place_under (λ p. names p id) (place_of x.kept)) noted in
+      let two = and_parts (home_under (λ p. names p id) x.home) (place_under (λ p. names p id) (place_of x.kept)) one.1 in
+      elim (cases_Bool (kind_reached reached x.kind)) [
+        | inl lies ↦ by_pool (kind_pool x.kind) one.0 lies
+        | inr apart ↦ (let rest = other_part (kind_reached reached x.kind) (home_reached reached x.home || place_reached reached (place_of x.kept)) apart is in
+            elim (cases_Bool (home_reached reached x.home)) [
+              | inl stays ↦ by_pool (home_pool x.home) two.0 stays
+              | inr away ↦ by_pool (place_of x.kept) two.1 (other_part (home_reached reached x.home) (place_reached reached (place_of x.kept)) away rest)
+            ])
       ]
 
 -- A bucket that depends on none of them stays as it is.

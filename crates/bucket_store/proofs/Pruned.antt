@@ -1,9 +1,10 @@
 -- Names of buckets that depend on a pool no more may be thrown out.
-use Rattle.std.proofs.Common.{◌≡◌, ◌≢◌, ◌==◌, ◌||◌, ℕ, Bool, true, cond, Option, None, Some, List, filter, is_some, ◌⊎◌, refl, sym, ap, ◌∙◌, inl, inr}
-use Rattle.std.proofs.lemmas.Bool.{cases_eq, eq-eqb, ne_eqb}
+use Rattle.std.proofs.Common.{◌≡◌, ◌≢◌, ◌==◌, ◌||◌, ℕ, Bool, true, false, cond, Option, None, Some, List, [], ◌∷◌, filter, is_some, ◌⊎◌, refl, sym, ap, ◌∙◌, inl, inr}
+use Rattle.std.proofs.lemmas.Bool.{cases_eq, eq-eqb, eqb-true, false≢true, ne_eqb}
+use Rattle.std.specs.Option.{option_and_then}
 use Rattle.bucket_kinds.specs.declared.stored.Stored.{Stored}
 use Rattle.bucket_ring.specs.declared.names.BucketId.{BucketId}
-use Rattle.bucket_ring.specs.Lists.{list_at, times}
+use Rattle.bucket_ring.specs.Lists.{list_at, times, found}
 use Rattle.bucket_ring.specs.Kept.{IsKept}
 use Rattle.bucket_ring.specs.Laws.{in_found}
 use Rattle.bucket_store.specs.declared.dependents.Dependents.{Dependents}
@@ -11,8 +12,8 @@ use Rattle.bucket_store.specs.Dependents.{names_of, noted, StayNoted}
 use Rattle.bucket_store.specs.Due.{kind_pool, home_pool, place_reached, kind_reached, home_reached}
 use Rattle.bucket_store.specs.Items.{StoredItems}
 use Rattle.bucket_store.specs.Morphs.{is_named}
-use Rattle.bucket_store.specs.Noted.{place_under, place_of, held_under, is_noted, AreNoted, bucket_named, still_under}
-use Rattle.bucket_store.proofs.DueBuckets.{named_filtered, either_named, first_named, second_named}
+use Rattle.bucket_store.specs.Noted.{place_under, place_of, held_under, is_noted, AreNoted, NoneDepends, bucket_named, still_under}
+use Rattle.bucket_store.proofs.DueBuckets.{held_one, named_filtered, either_named, first_named, second_named}
 use Rattle.bucket_store.proofs.Noted.{all_found, are_kept, listed_by_found, noted_item, noted_parts}
 use Rattle.bucket_store.proofs.Saves.{here_at}
 use Rattle.bucket_store.proofs.Walks.{once_listed}
@@ -57,6 +58,29 @@ module _ (at : BucketId → Option ℕ) (lists : ℕ → Option StoredItems) (ne
       (λ id x is.
       let there = here_at (at id) lists id b x (in_found at lists next law id b (ap is_some is)) is in
       item_stays (noted old) (noted new) id x (under_kept id x there) (all_found (is_noted (noted old)) id x (list_at lists b) (are b) is))
+
+-- Where no bucket depends on a pool, no name stays under it.
+pub all_thrown : (test : BucketId → Bool) → ((id : BucketId) → test id ≡ false) → (names : List BucketId) → filter test names ≡ []
+all_thrown test none [] = refl
+all_thrown test none (name ∷ names) = rw (none name) (all_thrown test none names)
+
+-- Where no bucket is noted under a pool, none depends on it.
+pub none_under : (names : ℕ → BucketId → Bool) (at : BucketId → Option ℕ) (lists : ℕ → Option StoredItems) (pool : ℕ) → AreNoted names lists → ((id : BucketId) → names pool id ≡ false)
+    → NoneDepends at lists pool
+none_under names at lists pool are none id = by_ring (at id) where
+  by_test : (b : ℕ) (x : Stored) → found id (list_at lists b) ≡ Some x → (t : Bool) → held_under (λ q. q == pool) x ≡ t → t ≡ false
+  by_test b x is false e = refl
+  by_test b x is true e =
+      let one = held_one (λ q. q == pool) names id x (all_found (is_noted names) id x (list_at lists b) (are b) is) e in
+      absurd (false≢true (sym (none id) ∙ (sym (ap (λ (p : ℕ). names p id) (eqb-true one.0 pool one.1)) ∙ one.2)))
+
+  by_found : (b : ℕ) (o : Option Stored) → found id (list_at lists b) ≡ o → still_under pool o ≡ false
+  by_found b None e = refl
+  by_found b (Some x) e = by_test b x e (held_under (λ q. q == pool) x) refl
+
+  by_ring : (o : Option ℕ) → still_under pool (option_and_then (λ b. found id (list_at lists b)) o) ≡ false
+  by_ring None = refl
+  by_ring (Some b) = by_found b (found id (list_at lists b)) refl
 
 -- Where the names under all pools are as they were, what was noted is noted.
 pub same_names : (old new : Dependents) → ((p : ℕ) → names_of new p ≡ names_of old p) → new.lost ≡ old.lost → StayNoted old new

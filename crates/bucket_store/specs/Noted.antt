@@ -30,6 +30,10 @@ abbrev pub still_under : ℕ → Option Stored → Bool
 still_under p None = false
 still_under p (Some x) = held_under (λ q. q == p) x
 
+-- No bucket that is there depends on a pool.
+abbrev pub NoneDepends : (BucketId → Option ℕ) → (ℕ → Option StoredItems) → ℕ → Type 0
+NoneDepends at lists p = (id : BucketId) → still_under p (bucket_named at lists id) ≡ false
+
 -- whether a pool passes a test, if there is one,
 abbrev pub place_under : (ℕ → Bool) → Option ℕ → Bool
 place_under test None = true

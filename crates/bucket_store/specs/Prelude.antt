@@ -10,6 +10,6 @@ pub use Rattle.bucket_kinds.specs.Stored.{is_whole, shown, shown_content}
 pub use Rattle.bucket_kinds.specs.declared.stored.Kept.{Kept}
 pub use Rattle.bucket_store.specs.Dependents.{StayNoted, names_of, noted}
 pub use Rattle.bucket_store.specs.Items.{Items, StoredItems, from_place}
-pub use Rattle.bucket_store.specs.Noted.{AreNoted, held_under, home_under, is_noted, kind_under, place_of, place_under}
+pub use Rattle.bucket_store.specs.Noted.{AreNoted, NoneDepends, bucket_named, held_under, home_under, is_noted, kind_under, place_of, place_under, still_under}
 pub use Rattle.bucket_store.specs.Regions.{look}
 pub use Rattle.bucket_store.specs.Shown.{AreHeld, is_held, is_own, lies_right, own_bucket}

@@ -468,20 +468,20 @@ impl<R: Rings<Stored> + Drop> BucketStore<R> {
         Ok(held)
     }
 
-    /// Throws out the names under a pool whose buckets are gone or depend on it no more, and gives up its region where none is left.
+    /// Throws out the names under a pool whose buckets are gone or depend on it no more, and gives up its region where no bucket depends on it.
     fn forget_pool(&mut self, pool: u64)
         ensures given_up { IsGivenUp self.new pool }
         ensures others { (p : ℕ) → p ≢ pool → IsGivenUp self.old p → IsGivenUp self.new p }
         ensures rings { self.new.rings.rings ≡ self.old.rings.rings }
         ensures same { (n : ℕ) → seen self.new n ≡ seen self.old n }
     {
-        self.rings.forget(pool);
-        if self.rings.has_none(pool) {
+        if self.rings.forget(pool) {
             self.regions.free(pool);
         }
     }
 
-    /// Throws out the names under these pools whose buckets are gone or depend on them no more, and gives up each region where none is left.
+    /// Throws out the names under these pools whose buckets are gone or depend on them no more, and gives up the region of each on which no
+    /// bucket depends.
     pub fn forget(&mut self, pools: &[u64])
         ensures given_up { (p : ℕ) → is_in p pools.now ≡ true → IsGivenUp self.new p }
         ensures others { (p : ℕ) → IsGivenUp self.old p → IsGivenUp self.new p }

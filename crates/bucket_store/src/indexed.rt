@@ -1,10 +1,10 @@
 //! Rings of buckets that know which of them depend on a pool.
 
 ghost use Rattle.std.specs.Prelude.{◌≡◌, ◌≢◌, ◌↔◌, ℕ, ◌+◌, ◌<◌, ◌++◌, [], length, Some, true, false, is_some, is_ok, if◌then◌else◌, IfOk, OnOk, OnErr};
-ghost use Rattle.bucket_store.specs.Prelude.{upd, on, by_birth, numbered, IsKept, NoneRevived, StoredItems, names_of, noted, AreNoted};
+ghost use Rattle.bucket_store.specs.Prelude.{upd, on, by_birth, numbered, IsKept, NoneRevived, StoredItems, names_of, noted, AreNoted, NoneDepends};
 
 use crate::dependents::Dependents;
-use crate::noting::{any_depends, make_room_for_all, note_changed, note_ring};
+use crate::noting::{any_depends, make_room_for_all, none_depends, note_changed, note_ring};
 use crate::pruning::{place_of, prune, tidy};
 use bucket_kinds::Stored;
 use bucket_ring::{BucketId, RingId, RingRefusal, Rings};
@@ -22,22 +22,28 @@ pub struct Indexed<R: Rings<Stored>> {
 }
 
 impl<R: Rings<Stored> + Drop> Indexed<R> {
-    /// Throws out the names under a pool whose buckets are gone or depend on it no more.
-    pub fn forget(&mut self, pool: u64)
+    /// Throws out the names under a pool whose buckets are gone or depend on it no more, and tells whether no bucket depends on it. Where
+    /// names were lost, it walks along all rings.
+    pub fn forget(&mut self, pool: u64) -> bool
         ensures rings { self.new.rings ≡ self.old.rings }
         ensures others { (p : ℕ) → p ≢ pool → names_of self.new.dependents p ≡ names_of self.old.dependents p }
         ensures lost { self.new.dependents.lost ≡ self.old.dependents.lost }
+        ensures none { result ≡ true → NoneDepends (R.ring_at self.old.rings) (R.lists self.old.rings) pool }
+        ensures sure { NoneDepends (R.ring_at self.old.rings) (R.lists self.old.rings) pool → result ≡ true }
     {
         prune(&mut self.dependents, &self.rings, pool);
         self.dependents.drop_empty(pool);
+        self.has_none(pool)
     }
 
-    /// Whether it is known that no bucket depends on a pool.
-    pub fn has_none(&self, pool: u64) -> bool
-        ensures none { result ≡ true → names_of self.now.dependents pool ≡ [] }
-        ensures kept { result ≡ true → self.now.dependents.lost ≡ false }
-        ensures sure { names_of self.now.dependents pool ≡ [] → self.now.dependents.lost ≡ false → result ≡ true }
+    /// Whether no bucket depends on a pool under which no other names stand than those of buckets that do.
+    fn has_none(&self, pool: u64) -> bool
+        ensures none { result ≡ true → NoneDepends (R.ring_at self.now.rings) (R.lists self.now.rings) pool }
+        ensures sure { names_of self.now.dependents pool ≡ [] → NoneDepends (R.ring_at self.now.rings) (R.lists self.now.rings) pool → result ≡ true }
     {
+        if self.dependents.is_lost() {
+            return none_depends(&self.rings, pool);
+        }
         self.dependents.has_none(pool)
     }
 }

@@ -1,6 +1,7 @@
 //! Rings of stored buckets, and what stands in them as contracts of brigades see it.
 #![tactic(auto)]
 
+mod bucket_store;
 mod dependents;
 mod indexed;
 mod laws;
@@ -10,9 +11,11 @@ mod parting;
 mod pruning;
 mod refusal;
 mod regions;
-mod bucket_store;
 mod view;
 
+pub use bucket_kinds::{ReadFault, RegionBytes, Stored};
+pub use bucket_ring::{BucketId, RingId, RingRefusal, Rings};
+pub use bucket_store::{BucketStore, HeapCopy};
 pub use dependents::Dependents;
 pub use indexed::Indexed;
 pub use laws::{lists_are_the_models, points_are_the_models, worked_changes};
@@ -20,5 +23,5 @@ pub use morph::Morph;
 pub use parting::{Cut, Point};
 pub use refusal::{ReadRefusal, SplitRefusal};
 pub use regions::Regions;
-pub use bucket_store::{HeapCopy, BucketStore};
+pub use run_model::{Bucket, Content, Home, Kind};
 pub use view::{ContentView, View};

@@ -1,11 +1,11 @@
 //! The buckets of a ring are noted under the pools that they depend on.
 
-ghost use Rattle.std.specs.Prelude.{◌≡◌, ◌≤◌, ℕ, drop, Some, true, is_some, IfSome};
+ghost use Rattle.std.specs.Prelude.{◌≡◌, ◌≤◌, ℕ, drop, Some, true, false, is_some, IfSome};
 ghost use Rattle.std.specs.List.{list_any};
-ghost use Rattle.bucket_store.specs.Prelude.{BucketId, list_at, rest, found, noted, StayNoted, from_place, kind_under, home_under, place_under, place_of, held_under, is_noted};
+ghost use Rattle.bucket_store.specs.Prelude.{BucketId, list_at, rest, found, noted, StayNoted, from_place, kind_under, home_under, place_under, place_of, held_under, is_noted, NoneDepends, bucket_named, still_under};
 
 use crate::dependents::Dependents;
-use crate::pruning::{keeps_pools, place_of};
+use crate::pruning::{depends_there, keeps_pools, place_of};
 use bucket_kinds::Stored;
 use bucket_ring::{BucketId, RingId, Rings};
 use run_model::{Home, Kind};
@@ -105,4 +105,33 @@ pub(crate) fn note_changed(
     if !keeps_pools(had, kind, home, place) {
         dependents.note(id, kind, home, place);
     }
+}
+
+/// Whether no bucket of a ring depends on a pool.
+fn ring_has_none<R: Rings<Stored>>(rings: &R, ring: RingId, pool: u64) -> bool
+    requires { is_some (R.lists rings.now ring) ≡ true }
+    ensures none { result ≡ true → (id : BucketId) → R.ring_at rings.now id ≡ Some ring → still_under pool (bucket_named (R.ring_at rings.now) (R.lists rings.now) id) ≡ false }
+    ensures sure { NoneDepends (R.ring_at rings.now) (R.lists rings.now) pool → result ≡ true }
+{
+    let mut place = rings.first(ring);
+    while let Some(id) = place {
+        if depends_there(rings, id, pool) {
+            return false;
+        }
+        place = after(rings, ring, id);
+    }
+    true
+}
+
+/// Whether no bucket depends on a pool, found in a walk along all rings.
+pub(crate) fn none_depends<R: Rings<Stored>>(rings: &R, pool: u64) -> bool
+    ensures none { result ≡ true → NoneDepends (R.ring_at rings.now) (R.lists rings.now) pool }
+    ensures sure { NoneDepends (R.ring_at rings.now) (R.lists rings.now) pool → result ≡ true }
+{
+    for ring in 0..rings.next_name() {
+        if rings.has_ring(ring) && !ring_has_none(rings, ring, pool) {
+            return false;
+        }
+    }
+    true
 }

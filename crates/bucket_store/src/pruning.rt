@@ -76,7 +76,7 @@ pub(crate) fn keeps_pools(had: &Stored, kind: Kind, home: Home, place: Option<u6
 }
 
 /// Whether there is a bucket of this name that depends on a pool.
-fn depends_there<R: Rings<Stored>>(rings: &R, id: BucketId, pool: u64) -> bool
+pub(crate) fn depends_there<R: Rings<Stored>>(rings: &R, id: BucketId, pool: u64) -> bool
     ensures { result ≡ still_under pool (bucket_named (R.ring_at rings.now) (R.lists rings.now) id) }
 {
     if rings.ring_of(id).is_none() {
@@ -115,6 +115,7 @@ fn prune_names<R: Rings<Stored>>(dependents: &mut Dependents, rings: &R, pool: u
 /// Throws out the names under a pool whose buckets are gone or depend on it no more. It takes no memory.
 pub(crate) fn prune<R: Rings<Stored>>(dependents: &mut Dependents, rings: &R, pool: u64)
     ensures noted { AreNoted (noted dependents.old) (R.lists rings.now) → AreNoted (noted dependents.new) (R.lists rings.now) }
+    ensures names { names_of dependents.new pool ≡ filter (λ id. still_under pool (bucket_named (R.ring_at rings.now) (R.lists rings.now) id)) (names_of dependents.old pool) }
     ensures others { (p : ℕ) → p ≢ pool → names_of dependents.new p ≡ names_of dependents.old p }
     ensures lost { dependents.new.lost ≡ dependents.old.lost }
 {

@@ -15,7 +15,8 @@ pub use bytes::{
     unindented,
 };
 pub use line_reader::{LastLine, TakesLines, take_lines};
+pub use module_code::Seq;
 pub use number::{constant_of, decimal_u32, decimal_u64, decimal_up_to};
 pub use quoted::{Measured, measure, print_text, push_spelling, unquote, unquote_front};
 pub use text_line::{TextLine, first_line};
-pub use writer::{WriteFault, put_all};
+pub use writer::{TextWriter, WriteFault, put_all};

@@ -4,9 +4,9 @@ ghost use Rattle.std.specs.Prelude.{◌≡◌, Err, IfErr, IfOk, Ok};
 ghost use Rattle.filter_chain.specs.Prelude.{TakeOutput, TellLabels, World, Labels, Refused, labels_handed, refusal_of};
 
 use crate::host::Host;
-use byte_text::BlockBytes;
 use bucket_kinds::{Files, Stored};
 use bucket_ring::Rings;
+use byte_text::BlockBytes;
 use interp_exec::labels_run::LabelsRun;
 use run_model::Refusal;
 

@@ -6,7 +6,7 @@ use Rattle.httparse.specs.Grammar.{RequestHead}
 use Rattle.httparse.specs.Spans.{IsRequestAt, IsRequestWithin, IsWithin, span_bytes}
 use Rattle.httparse.specs.declared.spans.HeaderSpan.{HeaderSpan}
 use Rattle.httparse.specs.declared.spans.RequestSpans.{RequestSpans}
-use Rattle.http_message.specs.Asking.{method_of, refusal}
+use Rattle.http_message.specs.Asking.{method_of, head_refusal}
 use Rattle.http_message.specs.Clocks.{Said}
 use Rattle.http_message.specs.Heads.{BeginsWithin}
 use Rattle.http_message.specs.ReadBuffers.{unread}
@@ -84,7 +84,7 @@ follows_as step.More a b new read_buffer needs_input count f = record { still = 
 follows_as step.Done a b new read_buffer needs_input count f = record { still = f.still ∙ ap unread read_buffer; needs_input = f.needs_input ∙ needs_input; over = f.over; counted = f.counted ∙ count }
 
 -- A head that nothing refuses wants what its path does.
-pub wants_path : (site : Site) (h : RequestHead) (w : SiteTarget) → refusal h ≡ None → WantsPath site h w → Wants site h w
+pub wants_path : (site : Site) (h : RequestHead) (w : SiteTarget) → head_refusal h ≡ None → WantsPath site h w → Wants site h w
 wants_path site h (wanted.Status status) none p = inr (none, p)
 wants_path site h (wanted.File file) none p = (none, p)
 
@@ -95,15 +95,15 @@ near_done all rest now x o is near = subst (λ y. Nears all rest now y) is near
 
 module _ {H T : Type 0} (site : Site) (among : H → Method → List ℕ → RequestOutcome → H → Type 0) (rests : H → T → RequestOutcome → H → Type 0) where
   -- a head that nothing refuses, and whose path has a file, comes to what the request for it does
-  comes_so : (h : RequestHead) (file : List ℕ) (o : RequestOutcome) (old new : H) → refusal h ≡ None → file_of site h ≡ Some file
-      → among old (method_of h.method) file o new → ComesUnless site among (refusal h) old h o new
+  comes_so : (h : RequestHead) (file : List ℕ) (o : RequestOutcome) (old new : H) → head_refusal h ≡ None → file_of site h ≡ Some file
+      → among old (method_of h.method) file o new → ComesUnless site among (head_refusal h) old h o new
   comes_so h file o old new allowed named x = subst (λ r. ComesUnless site among r old h o new) (sym allowed) (subst (λ f. ComesTo site among f old h o new) (sym named) x)
 
   module _ {K : Type 0} (tells : K → Said → K → Type 0) (before after : K) where
     -- the head is answered
     serves_so : (low seen : List ℕ) (a : Asked) (h : RequestHead) (o : RequestOutcome) (old new : H) (s : ServeStep) (text : List ℕ) → IsAskedBy low a h
         → BeginsWithin head_limit fields_limit seen h (drop a.head.len seen) → a.head.len ≤ length seen
-        → ComesUnless site among (refusal h) old h o new → (x : Sends tells before h o a.head.len s text after)
+        → ComesUnless site among (head_refusal h) old h o new → (x : Sends tells before h o a.head.len s text after)
         → ServesRequest site among tells old before seen x.reply.closes a.head.len text new after
     serves_so low seen a h o old new s text asked begins fits comes x = record {
       turn = record { head = h; reply = x.reply; date = x.written.date };
@@ -131,7 +131,7 @@ module _ {H T : Type 0} (site : Site) (among : H → Method → List ℕ → Req
 
     does_so : (low seen : List ℕ) (whole : Bool) (a : Asked) (h : RequestHead) (o : RequestOutcome) (old new : H) (s : ServeStep) (text : List ℕ)
         → IsAskedBy low a h → BeginsWithin head_limit fields_limit seen h (drop a.head.len seen) → a.head.len ≤ length seen
-        → ComesUnless site among (refusal h) old h o new → Sends tells before h o a.head.len s text after → DoesStep site among tells old before seen whole s text new after
+        → ComesUnless site among (head_refusal h) old h o new → Sends tells before h o a.head.len s text after → DoesStep site among tells old before seen whole s text new after
     does_so low seen whole a h o old new s text asked begins fits comes x =
         by_closes x.reply.closes seen whole a.head.len s text old new x.answered (serves_so low seen a h o old new s text asked begins fits comes x)
 

@@ -7,7 +7,7 @@ use Rattle.std.proofs.KnownBytes.{Appends-nil, Consumes-nil}
 use Rattle.httparse.specs.Grammar.{RequestHead, print_request}
 use Rattle.http_message.specs.Clocks.{Said, IsNoted}
 use Rattle.http_message.specs.ReadBuffers.{unread}
-use Rattle.http_message.specs.Asking.{method_of, refusal}
+use Rattle.http_message.specs.Asking.{method_of, head_refusal}
 use Rattle.http_message.specs.declared.reply.Method.{Method}
 use Rattle.http_message.specs.declared.reply.Reply.{Reply}
 use Rattle.http_message.specs.declared.site.Site.{Site}
@@ -54,7 +54,7 @@ module _ {H K : Type 0} (site : Site) (among : H → Method → List ℕ → Req
   answers_later : (t : Turn) (mid now new : H) (then at after : K) → apart mid now → Passes tells then at → AnswersRequest site among tells now at t new after
       → (to : H) × AnswersRequest site among (TellsLater tells) mid then t to after × apart to new
   answers_later t mid now new then at after gap p a =
-      let c = comes_later (refusal t.head) t.head a.outcome mid now new gap a.comes in (
+      let c = comes_later (head_refusal t.head) t.head a.outcome mid now new gap a.comes in (
         c.0,
         record {
           valid = a.valid;

@@ -17,6 +17,8 @@ pub mod Driven
 pub mod Nearing
 pub mod Among
 pub mod Connecting
+pub mod SameResponses
+pub mod OneStream
 pub mod Serving
 pub mod Rows
 pub mod FeedRows

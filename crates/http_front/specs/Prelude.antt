@@ -18,6 +18,7 @@ pub use Rattle.http_front.specs.Connecting.{ClosesTurns, IsClosed, IsConnOpened,
 pub use Rattle.http_front.specs.Connecting.{outcome_of}
 pub use Rattle.http_front.specs.Driven.{HasConn, IsAlive, LacksFor, NoEventsOf, OnlyEventsOf, Refines, StepsAtMost}
 pub use Rattle.http_front.specs.Nearing.{slice_steps}
+pub use Rattle.http_front.specs.OneStream.{IsOnlyStreamFor}
 pub use Rattle.http_front.specs.Outcomes.{IsLack, IsReplyTo, IsUnserved, LacksNamesAt}
 pub use Rattle.http_front.specs.Requests.{ComesOf, EndsRequest, RunsCall, TakesOutput, ended_of, lack_of, unopened}
 pub use Rattle.http_front.specs.Serving.{BlamesSink, BlamesSource, EndsWell, FailsBy, ServeGoes, ServedSoFar}

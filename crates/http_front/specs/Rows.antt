@@ -2,7 +2,7 @@
 use Rattle.std.specs.Prelude.{◌≡◌, ℕ, ◌||◌, Bool, true, false, List, [], ◌∷◌, ◌++◌, length, replicate, Option, Some, None, codes}
 use Rattle.httparse.specs.Grammar.{crlf, Field, RequestHead, print_request}
 use Rattle.percent_encoding.specs.Percent.{percent_decode}
-use Rattle.http_message.specs.Asking.{method_of, refusal, head_closes, status_closes, target_path, version_of}
+use Rattle.http_message.specs.Asking.{method_of, head_refusal, head_closes, status_closes, target_path, version_of}
 use Rattle.http_message.specs.Heads.{IsHeadlessWithin}
 use Rattle.http_message.specs.Replying.{IsDateLine, reply_text, size_line}
 use Rattle.http_message.specs.Sites.{route_of}
@@ -68,7 +68,7 @@ with_length raw = asks (codes "GET") (codes "/a") 1 (host ∷ line (codes "Conte
 
 -- what a head asks for, whatever files there are: the status that refuses it, that its client wants no further request, and the path as it was sent
 abbrev pub Asks : RequestHead → Option StatusCode → Bool → Option (List ℕ) → Type 0
-Asks h refused closes path = (refusal h ≡ refused) × (head_closes h ≡ closes) × (target_path h.target ≡ path)
+Asks h refused closes path = (head_refusal h ≡ refused) × (head_closes h ≡ closes) × (target_path h.target ≡ path)
 
 -- Responses.
 

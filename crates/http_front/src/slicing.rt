@@ -7,7 +7,7 @@ ghost use Rattle.http_front.specs.Prelude.{MakesSlice, OpensUnlessIn, Rests, Res
 use crate::fault::FrontKind;
 use crate::feeding::{next_brigade, wanted};
 use crate::handler::{RequestOutcome, Slice};
-use crate::requests::{without_body, finish, finish_without_body, unopened};
+use crate::requests::{finish, finish_without_body, unopened, without_body};
 use crate::running::{CallEnd, how_ended, run_call, succeeded, unless_lack};
 use crate::task::{FileRest, RequestTask};
 use filter_chain::{Files, Host, Refusal, Rings, Stepped, Stored};

@@ -6,4 +6,5 @@ pub mod output;
 pub mod output_block;
 pub mod passes;
 
+pub use byte_text::BlockBytes;
 pub use output_block::OutputBlock;

@@ -5,8 +5,8 @@ ghost use Rattle.bucket_kinds.specs.Device.{is_there};
 ghost use Rattle.interp_calls.specs.Delivery.{SpanAdded};
 
 use crate::output::{Fetched, fetch};
-use byte_text::BlockBytes;
 use brigade_ops::{FileNo, Files};
+use byte_text::BlockBytes;
 use run_model::Seq;
 use std::alloc::{AllocError, Global};
 use std::marker::Model;

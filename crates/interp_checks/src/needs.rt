@@ -30,7 +30,10 @@ fn place_fault_at<R: Rings<Stored> + Drop>(
             passed_fault(mark_of(instance, store, b)),
             need.within_fault(b),
         ),
-        CursorPlace::End(b) => or_else(passed_fault(mark_of(instance, store, b)), need.end_fault(b)),
+        CursorPlace::End(b) => or_else(
+            passed_fault(mark_of(instance, store, b)),
+            need.end_fault(b),
+        ),
     }
 }
 

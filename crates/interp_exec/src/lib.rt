@@ -22,4 +22,6 @@ mod reads;
 mod saves;
 mod split_steps;
 
+pub use brigade_ops::PoolId;
 pub use labels_run::LabelsRun;
+pub use run_model::Payload;

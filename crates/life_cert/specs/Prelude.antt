@@ -1,7 +1,7 @@
 -- The words that the clauses of this crate's code share, from where they are defined.
 pub use Rattle.module_code.specs.Program.{IsModule}
 pub use Rattle.byte_text.specs.Bytes.{after_token}
-pub use Rattle.byte_text.specs.Writes.{Wrote}
+pub use Rattle.byte_text.specs.Writes.{Wrote, writer_state}
 pub use Rattle.life_state.specs.Form.{IsFormed}
 pub use Rattle.life_state.specs.Seen.{seen, seen_brigade, seen_cursor, seen_edges, seen_homes, seen_some}
 pub use Rattle.life_state.specs.States.{Loose}

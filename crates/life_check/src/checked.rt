@@ -44,7 +44,11 @@ fn check_states(code: &Module, cert: &Cert) -> Result<(), CheckRefusal>
 {
     let leaders = leaders(code);
     unless(has_shape(code, cert), 0, Rule::Shape)?;
-    unless(!cert.slim || at_leaders(code, cert, &leaders), 0, Rule::Shape)?;
+    unless(
+        !cert.slim || at_leaders(code, cert, &leaders),
+        0,
+        Rule::Shape,
+    )?;
     check_meant(code, cert, &leaders)
 }
 

@@ -12,7 +12,7 @@ use crate::ended::Ended;
 use crate::fault::PlayFault;
 use crate::streams::write_text;
 use byte_streams::Sink;
-use byte_text::WriteFault;
+use byte_text::{TextWriter, WriteFault};
 use life_cert::print_cert;
 use life_check::{Cert, CheckRefusal};
 use module_lang::AsmRefusal;
@@ -57,9 +57,10 @@ pub fn refused_at(alloc: Global, refusal: CheckRefusal) -> Result<CommandOutput,
 pub fn cert_text(alloc: Global, cert: &Cert) -> Result<CommandOutput, AllocError>
     ensures { IfOk result (λ a. (a.text.items ≡ cert_text cert.now.version cert.now.slim (seen_cert cert.now)) × (a.ended ≡ ended.Done)) }
 {
-    let mut text = Vec::new(alloc);
-    match print_cert(cert, &mut text) {
+    let mut out = TextWriter::new(Vec::new(alloc));
+    match print_cert(cert, &mut out) {
         Ok(()) => {
+            let text = out.into_writer();
             let ended = Ended::Done;
             Ok(CommandOutput { text, ended })
         }

@@ -8,7 +8,7 @@ use crate::ended::Ended;
 use crate::fault::PlayFault;
 use crate::streams::read_all;
 use byte_streams::{CountedSource, READS, Sink, Source};
-use byte_text::WriteFault;
+use byte_text::{TextWriter, WriteFault};
 use module_code::Module;
 use module_lang::{assemble, print_module};
 use std::alloc::{AllocError, Global};
@@ -16,9 +16,10 @@ use std::alloc::{AllocError, Global};
 fn module_text(alloc: Global, code: &Module) -> Result<CommandOutput, AllocError>
     ensures { IfOk result (λ a. IsModuleText code.now a.text.items a.ended) }
 {
-    let mut text = Vec::new(alloc);
-    match print_module(code, &mut text) {
+    let mut out = TextWriter::new(Vec::new(alloc));
+    match print_module(code, &mut out) {
         Ok(()) => {
+            let text = out.into_writer();
             let ended = Ended::Done;
             Ok(CommandOutput { text, ended })
         }

@@ -8,9 +8,9 @@ ghost use Rattle.run_model.specs.Chains.{module_at};
 
 use crate::conn::Conn;
 use brigade_ops::{Brigades, PoolTree, Rings, Stored};
+use interp_checks::wants::fault;
 use interp_state::asks::{is_spent, lacks_names};
 use interp_state::context::Context;
-use interp_checks::wants::fault;
 use run_model::{FaultKind, Instr, Module, Payload, Status};
 
 /// The next instruction of the call on top: the number of its module and its own.

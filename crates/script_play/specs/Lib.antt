@@ -5,6 +5,7 @@ pub use Rattle.module_commands.specs.Streams
 pub mod Plays
 pub mod Faithful
 pub mod Written
+pub mod OneText
 pub mod Sessions
 pub mod Players
 pub mod Playing

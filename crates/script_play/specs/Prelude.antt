@@ -10,6 +10,7 @@ pub use Rattle.bucket_kinds.specs.Device.{is_there}
 pub use Rattle.module_run.specs.Happened.{refusal_of}
 pub use Rattle.filter_chain.specs.Hosting.{IsHosting, done_answer, step_answer}
 pub use Rattle.filter_chain.specs.Safe.{GoesWell, IsSafe}
+pub use Rattle.script_play.specs.OneText.{IsOnlyTextFor}
 pub use Rattle.script_play.specs.Players.{HasBegun, TakesOneLine, MayBeginCommands}
 pub use Rattle.script_play.specs.Playing.{EndsLines, PlaysBytes, PlaysEnd, PlaysLines}
 pub use Rattle.script_play.specs.Plays.{is_due, is_fault, reply_of}

@@ -186,7 +186,7 @@ pub record TellsSome {script : List ℕ} {left : Option (List ℕ)} (read : Last
   pub whole : IsWhole seen ⊎ ((read.last ≡ []) × (rest ≡ []))
   pub tells : IsSomeOf (1 + length (lines_of read.whole)) (lines_of seen) read.mid text
 
--- What is written where memory is wanting: all lines are answered but those that end in the last 8192 bytes that were read; of these, some first
+-- What is written where memory runs out: all lines are answered but those that end in the last 8192 bytes that were read; of these, some first
 -- ones may be.
 pub record IsFrontOf (script text : List ℕ) (left : Option (List ℕ)) : Type 0 where
   pub read : LastRead script left

@@ -1,7 +1,7 @@
 use Rattle.http_front.proofs.FeedRows.{call_rows, file_rows}
 use Rattle.http_front.proofs.Rows.{http_1_0, http_bad_head, http_connection_option, http_empty_file, http_failing, http_get, http_get_absolute, http_head}
 use Rattle.http_front.proofs.Rows.{http_large_file, http_many_fields, http_methods, http_missing, http_request_body, replies_are_these}
-use Rattle.http_front.proofs.laws.acceptance.Goals as goal
+use Rattle.http_front.proofs.laws.worked_rows.Goals as goal
 
 pub returns-clause-replies : goal.returns-clause-replies
 returns-clause-replies c = replies_are_these

@@ -1,6 +1,6 @@
 use Rattle.std.proofs.Common.{◌∙◌}
 use Rattle.http_message.proofs.Asked.{refused_by_fields, refused_by_line}
-use Rattle.http_message.proofs.refusing.refusal.Goals as goal
+use Rattle.http_message.proofs.refusing.head_refusal.Goals as goal
 
 pub returns-in-Some : goal.returns-in-Some
 returns-in-Some c h at =
