@@ -3,7 +3,7 @@
 use crate::page::Page;
 use crate::script::lines_of;
 use crate::words::text_of;
-use byte_text::{begins, is_text, tail, unindented};
+use byte_text::{begins, decimal_u32, is_text, tail, unindented};
 use std::alloc::Global;
 
 /// What no line and no instruction has for its number.
@@ -50,6 +50,15 @@ pub fn cut(page: &Page, start: usize, end: usize) -> &[u8] {
 // Whether a line is skipped.
 fn is_skipped(line: &[u8]) -> bool {
     line.is_empty() || begins(line, b'#')
+}
+
+// The line of a filter that a comment names, as the compiler writes them: `# line 4`.
+fn named_line(line: &[u8]) -> Option<u32> {
+    let words = b"# line ";
+    if !line.starts_with(words) {
+        return None;
+    }
+    decimal_u32(line.get(words.len()..).unwrap_or(&[]))
 }
 
 impl ModuleText {
@@ -132,6 +141,18 @@ impl ModuleText {
     /// The number of an instruction's line.
     pub fn number_of(&self, pc: usize) -> usize {
         self.number_at(self.line_of(pc))
+    }
+
+    /// The line of the filter that an instruction was compiled from, where a comment before it names one.
+    pub fn filter_line(&self, pc: usize) -> Option<u32> {
+        let mut found = None;
+        for line in self.lines.get(..self.line_of(pc)).unwrap_or(&[]) {
+            let named = named_line(cut(&self.page, line.start, line.end));
+            if named.is_some() {
+                found = named;
+            }
+        }
+        found
     }
 
     /// The place of the line that is written so, or `NO_LINE`.

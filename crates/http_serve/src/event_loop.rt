@@ -443,5 +443,13 @@ pub fn serve_turns<R: Clock + Eprint + AllocGlobal + Net, F: Files + Drop, B: Ri
     let mut poll = Poll::new(rt)?;
     let mut events = Events::with_capacity(rt.alloc(), REPORTS)?;
     let mut acceptor = door_of(listener, settings);
-    serve_door(rt, site, host, settings, &mut poll, &mut events, &mut acceptor)
+    serve_door(
+        rt,
+        site,
+        host,
+        settings,
+        &mut poll,
+        &mut events,
+        &mut acceptor,
+    )
 }

@@ -10,7 +10,9 @@ use crate::listening::{ServeSettings, serve_all};
 use crate::site_reading::read_site;
 use bucket_kinds::DiskFiles;
 use filter_chain::{CheckedChain, Files, Host, Limits, RawRings, Rings, Stored};
-use filter_files::{ParamSetting, StartCause, StartError, read_chain, write_stop, told, told_for};
+use filter_files::{
+    FileChain, ParamSetting, StartCause, StartError, read_chain, told, told_for, write_stop,
+};
 use http_message::Site;
 use module_commands::PlayFault;
 use std::alloc::{AllocError, Global};
@@ -19,6 +21,9 @@ use std::os::unix::fs::FileExt;
 use std::process::ExitCode;
 use std::rt::{Clock, Runtime};
 use std::time::Duration;
+
+/// How many bytes a chain is handed at once at most.
+const MOST_BRIGADE_BYTES: u64 = 65_536;
 
 /// What `serve` is asked for.
 #[derive(Drop)]
@@ -115,6 +120,18 @@ fn is_told_where<R: Print + Eprint>(rt: &R, address: SocketAddr) -> bool {
         let _ = rt.eprintln(PlayFault::Write);
     }
     told
+}
+
+/// Warns where a brigade of the most bytes may take more instructions than a call may.
+fn warn_of_budget(rt: &impl Eprint, per_byte: u64, budget: u32) {
+    let most = per_byte.saturating_mul(MOST_BRIGADE_BYTES);
+    if u64::from(budget) < most {
+        let enough = most.saturating_add(MOST_BRIGADE_BYTES);
+        let _ = rt.eprintln(format_args!(
+            "warning: the filters that have a bound take up to {per_byte} instructions for a byte of a page, {most} for {MOST_BRIGADE_BYTES} bytes, \
+and a call may take {budget}: a long page may come as a 500; give --budget {enough}"
+        ));
+    }
 }
 
 /// How connections are served.
@@ -214,8 +231,9 @@ where
 {
     unless_too_few(rt.alloc(), options.at_once)?;
     let settings = options.settings.as_mut_slice();
-    let chain = read_chain(rt, options.modules.as_slice(), settings)?;
+    let FileChain { chain, per_byte } = read_chain(rt, options.modules.as_slice(), settings)?;
     let site = read_site(rt, options.site)?;
+    warn_of_budget(rt, per_byte, options.budget);
     serve_chain::<R, B>(rt, options, chain, &site)
 }
 

@@ -1,11 +1,11 @@
 //! What a certificate says against its module.
 
 use crate::flow::{FlowEdges, add_edges_of, state_at};
-use crate::told::{handler_name, put_at};
+use crate::told::{handler_name, put_at, put_filter_line};
+use explain_text::{ModuleText, Page, Topic, put_known};
 use life_cert::StatePlace;
 use life_check::{Cert, CertVersion, CheckRefusal, Rule};
 use life_state::{State, at_open, leq};
-use explain_text::{ModuleText, Page, Topic, put_known};
 use module_code::Module;
 
 // The variables and cursors of a state: eight pools, nine brigades and nine cursors.
@@ -183,6 +183,7 @@ pub fn put_certificate(
                 _ => "leads to what the certificate does not allow",
             };
             put_at(page, source, pc, "line #: `@` $\n", says);
+            put_filter_line(page, source, pc);
             put_from(page, source, code, cert, StatePlace::At(pc));
         }
     }

@@ -4,10 +4,10 @@ ghost use Rattle.std.specs.Prelude.{◌≡◌, true, IfSome};
 ghost use Rattle.module_code.specs.Program.{fits};
 
 use crate::needs::doubt_of;
+use explain_text::{Doubt, Page};
 use life_cert::{Arrival, Fixpoint, StatePlace, round_count};
 use life_check::{Cert, CertVersion, leaders};
 use life_state::{State, Successors, after, at_end_of_request, at_main, at_return};
-use explain_text::{Doubt, Page};
 use module_code::{Instr, Module, PoolRef};
 use run_model::FaultKind;
 use std::alloc::{AllocError, Global};

@@ -3,9 +3,9 @@
 use crate::certificate::put_certificate;
 use crate::flow::meant;
 use crate::session::write_refusals;
+use explain_text::{ModuleText, Page, ScriptText, write_asm_fault, write_cert_fault};
 use life_cert::{CertRefusal, MakeRefusal, least_fixpoint, make, read_cert};
 use life_check::{Cert, CertVersion, CheckRefusal, Rule, check};
-use explain_text::{ModuleText, Page, ScriptText, write_asm_fault, write_cert_fault};
 use module_code::Module;
 use module_lang::{AsmRefusal, assemble};
 use std::alloc::{AllocError, Global};
@@ -37,7 +37,12 @@ pub fn write_texts(page: &mut Page, text: ScriptText<'_>, cert: Option<ScriptTex
     }
 }
 
-fn write_module(page: &mut Page, text: ScriptText<'_>, code: &Module, cert: Option<ScriptText<'_>>) {
+fn write_module(
+    page: &mut Page,
+    text: ScriptText<'_>,
+    code: &Module,
+    cert: Option<ScriptText<'_>>,
+) {
     match cert {
         Some(given) => write_with(page, text, code, given),
         None => write_unmade(page, text, code),

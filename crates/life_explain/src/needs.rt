@@ -3,8 +3,8 @@
 ghost use Rattle.std.specs.Prelude.{◌≡◌, true};
 ghost use Rattle.module_code.specs.Program.{fits};
 
-use life_state::{Contents, CursorState, State};
 use explain_text::{Doubt, Sort};
+use life_state::{Contents, CursorState, State};
 use module_code::{Instr, Module, PoolRef};
 use run_model::{Need, Want, wants};
 

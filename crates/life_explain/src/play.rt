@@ -2,11 +2,11 @@
 
 use crate::help::{cert_of, module_of, write_texts};
 use crate::session::write_fault;
-use crate::told::put_at;
+use crate::told::{put_at, put_filter_line};
 use byte_text::{is_text, token};
 use explain_text::{
     AnsweredCommand, ModuleText, Page, Script, ScriptLine, ScriptText, fault_of, is_told, lines_of,
-    number, shown, write_refused, write_script_fault, word,
+    number, shown, word, write_refused, write_script_fault,
 };
 use run_model::FaultKind;
 use script_text::{fault_name, fault_named};
@@ -100,6 +100,7 @@ fn write_fault_at(page: &mut Page, text: ScriptText<'_>, index: usize, pc: usize
     put_at(page, &source, pc, "line #, `@`, of module ", "");
     page.put("# has $: ", index, &[], fault_name(kind));
     page.put_text("$\n", fault_of(kind).0);
+    put_filter_line(page, &source, pc);
     write_fault(page, &source, pc, kind);
 }
 

@@ -5,13 +5,13 @@ use crate::flow::{FlowRefusal, home_of, instr_at, parent_of};
 use crate::rules::{Fresh, HelpRule, Per, Test, When, names_of, rule_tables};
 use crate::trail::Trail;
 use byte_text::{after_token, begins, is_text, len_before, tail, token};
-use life_cert::StatePlace;
-use life_check::Cert;
-use life_state::{Classes, CursorState};
 use explain_text::{
     Edit, ModuleText, NO_LINE, Page, Pattern, Sort, Topic, brigade_name, cursor_text, last_word,
     pool_text, stands_in, text_of,
 };
+use life_cert::StatePlace;
+use life_check::Cert;
+use life_state::{Classes, CursorState};
 use module_code::parts::parts;
 use module_code::{Args, Instr, Module, Op, PoolRef, Status};
 use std::alloc::Global;

@@ -2,11 +2,11 @@
 
 use crate::flow::{FlowRefusal, Judged, all_edges, judged_of, refusal_of};
 use crate::remedy::Case;
-use crate::told::{put_advice, put_at, put_remedy, put_trail};
+use crate::told::{put_advice, put_at, put_filter_line, put_remedy, put_trail};
 use crate::trail::{Known, trail_to};
+use explain_text::{Edit, ModuleText, Page, Pattern, Sort, fault_of, put_rule};
 use life_check::Cert;
 use life_state::State;
-use explain_text::{Edit, ModuleText, Page, Pattern, Sort, fault_of, put_rule};
 use module_code::Module;
 use module_lang::{AsmRefusal, assemble};
 use run_model::FaultKind;
@@ -249,6 +249,7 @@ fn write_may(page: &mut Page, source: &ModuleText, state: &State, refusal: FlowR
     let form = "line #: `@` may have $: ";
     put_at(page, source, refusal.pc, form, fault_name(kind));
     page.put_text("$\n", fault_of(kind).0);
+    put_filter_line(page, source, refusal.pc);
     put_rule(page, state, refusal.doubt);
 }
 

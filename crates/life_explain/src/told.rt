@@ -2,8 +2,8 @@
 
 use crate::flow::instr_at;
 use crate::trail::{Trail, TrailStep};
-use life_cert::StatePlace;
 use explain_text::{Doubt, Edit, ModuleText, Page, Pattern, Sort, cursor_name, cut};
+use life_cert::StatePlace;
 use module_code::{Instr, Module};
 
 /// The handler that an instruction is in.
@@ -20,6 +20,13 @@ pub fn handler_name(code: &Module, pc: usize) -> &'static str {
 /// Adds a form, with the number of an instruction's line, the line, and a text.
 pub fn put_at(page: &mut Page, source: &ModuleText, pc: usize, form: &str, text: &str) {
     page.put(form, source.number_of(pc), source.instruction(pc), text);
+}
+
+/// Tells which line of a filter an instruction was compiled from, where the module's comments say so.
+pub fn put_filter_line(page: &mut Page, source: &ModuleText, pc: usize) {
+    if let Some(line) = source.filter_line(pc) {
+        page.put_number("  filter: line # of its text\n", line as usize);
+    }
 }
 
 /// Tells where what may be so comes from.
@@ -43,11 +50,13 @@ fn put_origin(page: &mut Page, source: &ModuleText, code: &Module, trail: &Trail
     if trail.is_made {
         put_at(page, source, pc, "  from: line #, `@`, ", "");
         put_deed(page, code, pc, doubt);
+        put_filter_line(page, source, pc);
     } else if pc == 0 || pc == code.init() || pc == code.main() {
         page.put_text("  from: `$` begins so\n", handler_name(code, pc));
     } else {
         let form = "  from: ways that know different things meet at line #, `@`\n";
         put_at(page, source, pc, form, "");
+        put_filter_line(page, source, pc);
     }
 }
 

@@ -1,5 +1,5 @@
 use Rattle.std.proofs.Common.{◌<◌}
-use Rattle.author_text.proofs.defs.Changes.+sets.Given as goal
+use Rattle.author_text.proofs.scope.Resolver.+sets.Given as goal
 
 abbrev pub decreases-add_run : goal.decreases-add_run
 decreases-add_run l = l.depth
