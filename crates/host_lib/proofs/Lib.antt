@@ -1,6 +1,8 @@
+mod Anew
 mod Fronts
 mod Shown
 mod Refused
 mod Slots
 mod Steps
 mod Values
+mod Words
