@@ -1,2 +1,12 @@
 pub mod AddsLaws
+pub mod EscapeLaws
+pub mod FrontLaws
+pub mod JudgeLaws
+pub mod NumberReadLaws
+pub mod PieceLaws
 pub mod PrintedLaws
+pub mod PrintedStmtLaws
+pub mod PrintedTokensLaws
+pub mod PushLaws
+pub mod QuotedLaws
+pub mod ScanLaws

@@ -1,5 +1,13 @@
 pub mod Places
 pub mod Adding
+pub mod Escapes
 pub mod Printed
 pub mod PrintedSource
+pub mod PrintedTokens
+pub mod Reading
+pub mod Scanning
+pub mod TextTokens
+pub mod Tokens
 pub mod Trees
+pub mod Words
+pub mod Writable

@@ -1,5 +1,8 @@
 //! What is wrong with a text first.
 
+ghost use Rattle.std.specs.Prelude.{◌≡◌, ◌⊎◌, ◌∷◌, [], ◌++◌, MatchOption, MatchResult, is_some, true};
+ghost use Rattle.author_text.specs.Reading.{IsOut, Keeps};
+
 use crate::place::Place;
 use crate::refusal::Refusal;
 use std::alloc::{AllocError, Global};
@@ -41,24 +44,35 @@ fn add_def(alloc: Global, what: &mut String, line: usize) -> Result<(), AllocErr
 
 impl Faults {
     /// No fault.
-    pub fn new(alloc: Global) -> Faults {
+    pub fn new(alloc: Global) -> Faults
+        ensures { result.first ≡ None }
+    {
         Faults { alloc, first: None }
     }
 
     /// Whether a fault was found.
-    pub fn is_any(&self) -> bool {
+    pub fn is_any(&self) -> bool
+        ensures { result ≡ is_some self.now.first }
+    {
         self.first.is_some()
     }
 
     /// There was no memory.
-    pub fn no_memory(&mut self) {
+    pub fn no_memory(&mut self)
+        ensures out { self.old.first ≡ None → IsOut self.new }
+        ensures kept { Keeps self.old self.new }
+        ensures found { is_some self.new.first ≡ true }
+    {
         if self.first.is_none() {
             self.first = Some(Refusal::NoMemory);
         }
     }
 
     /// What is wrong at a place, in words that were made, or that there is no memory for them.
-    pub fn add(&mut self, place: Place, said: Result<String, AllocError>) {
+    pub fn add(&mut self, place: Place, said: Result<String, AllocError>)
+        ensures kept { Keeps self.old self.new }
+        ensures found { is_some self.new.first ≡ true }
+    {
         match said {
             Ok(what) => {
                 if self.first.is_none() {
@@ -74,19 +88,28 @@ impl Faults {
     }
 
     /// What is wrong at a place.
-    pub fn says(&mut self, place: Place, what: &str) {
+    pub fn says(&mut self, place: Place, what: &str)
+        ensures kept { Keeps self.old self.new }
+        ensures found { is_some self.new.first ≡ true }
+    {
         let said = String::from_str(self.alloc, what);
         self.add(place, said);
     }
 
     /// What is wrong with a word at a place: the words before it, the word, and the words after it.
-    pub fn says_of(&mut self, place: Place, before: &[&str], word: &[u8], after: &str) {
+    pub fn says_of(&mut self, place: Place, before: &[&str], word: &[u8], after: &str)
+        ensures kept { Keeps self.old self.new }
+        ensures found { is_some self.new.first ≡ true }
+    {
         let said = joined(self.alloc, before, word, after);
         self.add(place, said);
     }
 
     /// AddsText an item to a list, where there is memory for it.
-    pub fn append<T: Drop>(&mut self, list: &mut Vec<T>, item: T) {
+    pub fn append<T: Drop>(&mut self, list: &mut Vec<T>, item: T)
+        ensures kept { Keeps self.old self.new }
+        ensures added { self.old.first ≡ None → IsOut self.new ⊎ ((self.new.first ≡ None) × (list.new.items ≡ list.old.items ++ item ∷ [])) }
+    {
         if list.push(item).is_err() {
             self.no_memory();
         }
@@ -104,7 +127,10 @@ impl Faults {
     }
 
     /// A value in a box, where there is memory for it.
-    pub fn boxed<T: Drop>(&mut self, value: T) -> Option<Box<T>> {
+    pub fn boxed<T: Drop>(&mut self, value: T) -> Option<Box<T>>
+        ensures kept { Keeps self.old self.new }
+        ensures made { self.old.first ≡ None → MatchOption result (IsOut self.new) (λ place. (self.new.first ≡ None) × (place.value ≡ value)) }
+    {
         match Box::new(self.alloc, value) {
             Ok(place) => Some(place),
             Err(_) => {
@@ -124,7 +150,9 @@ impl Faults {
     }
 
     /// A value, unless there is a fault.
-    pub fn outcome<T: Drop>(self, value: T) -> Result<T, Refusal> {
+    pub fn outcome<T: Drop>(self, value: T) -> Result<T, Refusal>
+        ensures { MatchResult result (λ v. (self.first ≡ None) × (v ≡ value)) (λ r. self.first ≡ Some r) }
+    {
         match self.first {
             Some(refusal) => Err(refusal),
             None => Ok(value),
