@@ -1,2 +1,10 @@
 pub mod AddsLaws
+pub mod CalmLaws
+pub mod OperatorLaws
 pub mod PrintedLaws
+pub mod ReadExprLaws
+pub mod ReadExprSteps
+pub mod ReadSourceLaws
+pub mod ReadStmtLaws
+pub mod ReadingLaws
+pub mod UnescapedLaws

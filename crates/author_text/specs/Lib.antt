@@ -1,5 +1,17 @@
 pub mod Places
 pub mod Adding
+pub mod Fits
+pub mod Limits
 pub mod Printed
 pub mod PrintedSource
+pub mod PrintedTokens
+pub mod ReadExprs
+pub mod ReadSource
+pub mod ReadStmts
+pub mod ReadTexts
+pub mod Reading
+pub mod Tokens
 pub mod Trees
+pub mod Unescaped
+pub mod Unread
+pub mod Words

@@ -1,5 +1,7 @@
 //! What is wrong with a text first.
 
+ghost use Rattle.std.specs.Prelude.{◌≡◌, ◌∷◌, [], ◌++◌, IsTrue, IsSome, MatchOption, is_some, not, ◌||◌};
+
 use crate::place::Place;
 use crate::refusal::Refusal;
 use std::alloc::{AllocError, Global};
@@ -9,6 +11,8 @@ use std::alloc::{AllocError, Global};
 pub struct Faults {
     alloc: Global,
     first: Option<Refusal>,
+    /// Whether there was memory for all that was made.
+    is_whole: bool,
 }
 
 /// AddsText the bytes of a word of the text, which are all below 0x7F.
@@ -41,27 +45,39 @@ fn add_def(alloc: Global, what: &mut String, line: usize) -> Result<(), AllocErr
 
 impl Faults {
     /// No fault.
-    pub fn new(alloc: Global) -> Faults {
-        Faults { alloc, first: None }
-    }
-
-    /// Whether a fault was found.
-    pub fn is_any(&self) -> bool {
-        self.first.is_some()
-    }
-
-    /// There was no memory.
-    pub fn no_memory(&mut self) {
-        if self.first.is_none() {
-            self.first = Some(Refusal::NoMemory);
+    pub fn new(alloc: Global) -> Faults
+        ensures first { result.first ≡ None }
+        ensures whole { IsTrue result.is_whole }
+    {
+        Faults {
+            alloc,
+            first: None,
+            is_whole: true,
         }
     }
 
+    /// Whether a fault was found.
+    pub fn is_any(&self) -> bool
+        ensures { result ≡ is_some self.now.first || not self.now.is_whole }
+    {
+        self.first.is_some() || !self.is_whole
+    }
+
+    /// There was no memory.
+    pub fn no_memory(&mut self)
+        ensures { IsTrue self.new.is_whole → ⊥ }
+    {
+        self.is_whole = false;
+    }
+
     /// What is wrong at a place, in words that were made, or that there is no memory for them.
-    pub fn add(&mut self, place: Place, said: Result<String, AllocError>) {
+    pub fn add(&mut self, place: Place, said: Result<String, AllocError>)
+        ensures whole { IsTrue self.new.is_whole → IsTrue self.old.is_whole }
+        ensures some { IsTrue self.new.is_whole → IsSome self.new.first }
+    {
         match said {
             Ok(what) => {
-                if self.first.is_none() {
+                if !self.is_any() {
                     self.first = Some(Refusal::Mistake {
                         line: place.line,
                         column: place.column,
@@ -74,19 +90,29 @@ impl Faults {
     }
 
     /// What is wrong at a place.
-    pub fn says(&mut self, place: Place, what: &str) {
+    pub fn says(&mut self, place: Place, what: &str)
+        ensures whole { IsTrue self.new.is_whole → IsTrue self.old.is_whole }
+        ensures some { IsTrue self.new.is_whole → IsSome self.new.first }
+    {
         let said = String::from_str(self.alloc, what);
         self.add(place, said);
     }
 
     /// What is wrong with a word at a place: the words before it, the word, and the words after it.
-    pub fn says_of(&mut self, place: Place, before: &[&str], word: &[u8], after: &str) {
+    pub fn says_of(&mut self, place: Place, before: &[&str], word: &[u8], after: &str)
+        ensures whole { IsTrue self.new.is_whole → IsTrue self.old.is_whole }
+        ensures some { IsTrue self.new.is_whole → IsSome self.new.first }
+    {
         let said = joined(self.alloc, before, word, after);
         self.add(place, said);
     }
 
     /// AddsText an item to a list, where there is memory for it.
-    pub fn append<T: Drop>(&mut self, list: &mut Vec<T>, item: T) {
+    pub fn append<T: Drop>(&mut self, list: &mut Vec<T>, item: T)
+        ensures whole { IsTrue self.new.is_whole → IsTrue self.old.is_whole }
+        ensures same { IsTrue self.new.is_whole → self.new ≡ self.old }
+        ensures added { IsTrue self.new.is_whole → list.new.items ≡ list.old.items ++ item ∷ [] }
+    {
         if list.push(item).is_err() {
             self.no_memory();
         }
@@ -104,7 +130,11 @@ impl Faults {
     }
 
     /// A value in a box, where there is memory for it.
-    pub fn boxed<T: Drop>(&mut self, value: T) -> Option<Box<T>> {
+    pub fn boxed<T: Drop>(&mut self, value: T) -> Option<Box<T>>
+        ensures whole { IsTrue self.new.is_whole → IsTrue self.old.is_whole }
+        ensures same { IsTrue self.new.is_whole → self.new ≡ self.old }
+        ensures made { MatchOption result (IsTrue self.new.is_whole → ⊥) (λ place. place.value ≡ value) }
+    {
         match Box::new(self.alloc, value) {
             Ok(place) => Some(place),
             Err(_) => {
@@ -118,7 +148,8 @@ impl Faults {
     pub fn in_def(&mut self, line: usize) {
         if let Some(Refusal::Mistake { what, .. }) = &mut self.first {
             if add_def(self.alloc, what, line).is_err() {
-                self.first = Some(Refusal::NoMemory);
+                self.first = None;
+                self.is_whole = false;
             }
         }
     }
@@ -127,7 +158,8 @@ impl Faults {
     pub fn outcome<T: Drop>(self, value: T) -> Result<T, Refusal> {
         match self.first {
             Some(refusal) => Err(refusal),
-            None => Ok(value),
+            None if self.is_whole => Ok(value),
+            None => Err(Refusal::NoMemory),
         }
     }
 }

@@ -31,6 +31,6 @@ pub mod tree;
 pub use filter::resolve as resolve_source;
 pub use places::place_in;
 pub use print::print as print_source;
-pub use read::read_source;
+pub use read::{read_source, tokens_are_read};
 pub use refusal::Refusal;
 pub use settings::{SetRefusal, set_param};

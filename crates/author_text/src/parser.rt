@@ -1,7 +1,14 @@
 //! Reading tokens one by one.
 
+ghost use Rattle.std.specs.Prelude.{◌≡◌, ◌+◌, length, map, IsTrue};
+ghost use Rattle.author_text.specs.Reading.{Reads, ReadsAs, unread_of};
+ghost use Rattle.author_text.specs.Tokens.{end_token, token_of};
+ghost use Rattle.author_text.specs.Unread.{next_token, passed, refused, is_at, is_end_token, is_quoted_token, eaten, needed, read_name, read_hold_or_it};
+ghost use Rattle.author_text.specs.Trees.{name_of, names_of};
+
 use crate::escape::push_bytes;
 use crate::faults::Faults;
+use crate::place::Place;
 use crate::source::{Name, Text};
 use crate::token::{Kind, Token};
 use std::alloc::Global;
@@ -11,16 +18,20 @@ use std::alloc::Global;
 pub struct Parser<'a, 't> {
     pub alloc: Global,
     tokens: &'t [Token<'a>],
-    end: Token<'a>,
+    end: Place,
     next: usize,
     pub faults: Faults,
-    /// How many operators the expression has that is read.
+    /// How many operators were read of the expression that is read: 0 where none is.
     pub operators: usize,
 }
 
 impl<'a, 't> Parser<'a, 't> {
-    /// A reader of these tokens; `end` comes after them.
-    pub fn new(alloc: Global, tokens: &'t [Token<'a>], end: Token<'a>) -> Parser<'a, 't> {
+    /// A reader of these tokens, in a text that ends at `end`.
+    #[tactic(auto, unfolding(crate::specs::Reading::unread_of))]
+    pub fn new(alloc: Global, tokens: &'t [Token<'a>], end: Place) -> Parser<'a, 't>
+        ensures left { unread_of result ≡ record { tokens = map token_of tokens.now; operators = 0 } }
+        ensures whole { IsTrue result.faults.is_whole }
+    {
         Parser {
             alloc,
             tokens,
@@ -31,48 +42,85 @@ impl<'a, 't> Parser<'a, 't> {
         }
     }
 
-    /// How many tokens are left, with the end.
-    pub fn left(&self) -> usize {
-        self.tokens
-            .len()
-            .saturating_sub(self.next)
-            .saturating_add(1)
+    /// How many tokens are left, with the end that stands behind all.
+    pub fn left(&self) -> usize
+        ensures { IsTrue self.now.faults.is_whole → result ≡ length (unread_of self.now).tokens + 1 }
+    {
+        if self.faults.is_any() {
+            return 1;
+        }
+        self.tokens.len().saturating_sub(self.next) + 1
     }
 
     /// The next token.
-    pub fn token(&self) -> Token<'a> {
+    pub fn token(&self) -> Token<'a>
+        ensures { IsTrue self.now.faults.is_whole → token_of result ≡ next_token (unread_of self.now) }
+    {
         if self.faults.is_any() {
-            return self.end;
+            return self.end_token();
         }
-        self.tokens.get(self.next).copied().unwrap_or(self.end)
+        if self.next < self.tokens.len() {
+            return self.tokens[self.next];
+        }
+        self.end_token()
+    }
+
+    /// The end of the text.
+    fn end_token(&self) -> Token<'a>
+        ensures { token_of result ≡ end_token }
+    {
+        Token {
+            kind: Kind::End,
+            text: b"",
+            place: self.end,
+        }
     }
 
     /// The next token, which is passed.
-    pub fn take(&mut self) -> Token<'a> {
+    pub fn take(&mut self) -> Token<'a>
+        ensures { Reads self.old self.new ((token_of result ≡ next_token (unread_of self.old)) × (unread_of self.new ≡ passed (unread_of self.old))) }
+    {
         let token = self.token();
-        self.next = self.next.saturating_add(1);
+        self.pass();
         token
     }
 
-    pub fn is_end(&self) -> bool {
+    /// Passes the next token, if one is left.
+    fn pass(&mut self)
+        ensures { Reads self.old self.new (unread_of self.new ≡ passed (unread_of self.old)) }
+    {
+        if self.next < self.tokens.len() {
+            self.next += 1;
+        }
+    }
+
+    pub fn is_end(&self) -> bool
+        ensures { IsTrue self.now.faults.is_whole → result ≡ is_end_token (next_token (unread_of self.now)) }
+    {
         matches!(self.token().kind, Kind::End)
     }
 
-    pub fn is_text(&self) -> bool {
+    pub fn is_text(&self) -> bool
+        ensures { IsTrue self.now.faults.is_whole → result ≡ is_quoted_token (next_token (unread_of self.now)) }
+    {
         matches!(self.token().kind, Kind::Text)
     }
 
     /// Whether this word or mark is next.
-    pub fn at(&self, text: &str) -> bool {
+    pub fn at(&self, text: &str) -> bool
+        ensures { IsTrue self.now.faults.is_whole → result ≡ is_at (next_token (unread_of self.now)) text.now }
+    {
         let token = self.token();
         matches!(token.kind, Kind::Word | Kind::Mark) && token.text == text.as_bytes()
     }
 
     /// Passes this word or mark, if it is next.
-    pub fn eat(&mut self, text: &str) -> bool {
+    pub fn eat(&mut self, text: &str) -> bool
+        ensures { Reads self.old self.new ((result ≡ is_at (next_token (unread_of self.old)) text.now) × (unread_of self.new ≡ eaten text.now (unread_of self.old))) }
+    {
         let is_next = self.at(text);
         if is_next {
-            self.next = self.next.saturating_add(1);
+            self.pass();
         }
         is_next
     }
@@ -88,56 +136,81 @@ impl<'a, 't> Parser<'a, 't> {
     }
 
     /// What is wrong with the next token.
-    pub fn says(&mut self, what: &str) {
+    pub fn says(&mut self, what: &str)
+        ensures { Reads self.old self.new (unread_of self.new ≡ refused (unread_of self.old)) }
+    {
         let place = self.token().place;
         self.faults.says(place, what);
     }
 
     /// What is wrong with the next token, which stands between these words.
-    pub fn says_of(&mut self, before: &[&str], after: &str) {
+    pub fn says_of(&mut self, before: &[&str], after: &str)
+        ensures { Reads self.old self.new (unread_of self.new ≡ refused (unread_of self.old)) }
+    {
         let place = self.token().place;
         let shown = self.shown();
         self.faults.says_of(place, before, shown, after);
     }
 
     /// Something is due in place of the next token.
-    pub fn due(&mut self, due: &str) {
+    pub fn due(&mut self, due: &str)
+        ensures { Reads self.old self.new (unread_of self.new ≡ refused (unread_of self.old)) }
+    {
         self.says_of(&[due, " is due here, not `"], "`");
     }
 
     /// So much stands in one another at the next token that no more may.
-    pub fn too_deep(&mut self) {
+    pub fn too_deep(&mut self)
+        ensures { Reads self.old self.new (unread_of self.new ≡ refused (unread_of self.old)) }
+    {
         self.says("too much stands in one another here");
     }
 
     /// Passes this word or mark, which must be next.
-    pub fn need(&mut self, text: &str) {
+    pub fn need(&mut self, text: &str)
+        ensures { Reads self.old self.new (unread_of self.new ≡ needed text.now (unread_of self.old)) }
+    {
         if !self.eat(text) {
-            if text == "{" && self.at("=") {
-                self.says("numbers are compared with `==`");
-            }
-            self.says_of(&["`", text, "` is due here, not `"], "`");
+            self.refuse(text);
         }
     }
 
+    /// What is wrong where this word or mark is not next.
+    fn refuse(&mut self, text: &str)
+        ensures { Reads self.old self.new (unread_of self.new ≡ refused (unread_of self.old)) }
+    {
+        if text == "{" && self.at("=") {
+            self.says("numbers are compared with `==`");
+        }
+        self.says_of(&["`", text, "` is due here, not `"], "`");
+    }
+
     /// The name that must be next.
-    pub fn name(&mut self, due: &str) -> Name<'a> {
+    #[tactic(auto, unfolding(crate::specs::Unread::read_name))]
+    pub fn name(&mut self, due: &str) -> Name<'a>
+        ensures { ReadsAs self.old self.new (name_of result) (read_name (unread_of self.old)) }
+    {
         let token = self.token();
+        let place = token.place;
         match token.kind {
             Kind::Name => {
                 self.take();
+                return Name {
+                    text: token.text,
+                    place,
+                };
             }
             Kind::Word => self.says_of(&[due, " is due here; `"], "` is a word of the language"),
             _ => self.due(due),
         }
-        Name {
-            text: token.text,
-            place: token.place,
-        }
+        Name { text: b"", place }
     }
 
     /// The name of a hold, or `it`, which is no name.
-    pub fn hold_or_it(&mut self) -> Option<Name<'a>> {
+    #[tactic(auto, unfolding(crate::specs::Unread::read_hold_or_it))]
+    pub fn hold_or_it(&mut self) -> Option<Name<'a>>
+        ensures { ReadsAs self.old self.new (names_of result) (read_hold_or_it (unread_of self.old)) }
+    {
         if self.eat("it") {
             return None;
         }
@@ -170,7 +243,7 @@ impl<'a, 't> Parser<'a, 't> {
             _ => {
                 self.due("a text in quotes");
                 Text::Param(Name {
-                    text: token.text,
+                    text: b"",
                     place: token.place,
                 })
             }
