@@ -3,6 +3,7 @@
 
     python3 bench/filters.py [PROGRAM]
     python3 bench/filters.py --counts [PROGRAM] [OTHER]
+    python3 bench/filters.py --compiled [PROGRAM]
 
 PROGRAM is crates/host_cli/out/host_cli where none is given (`./host` builds it). The body is the page of bench/steps.py.
 Time is of 40 such requests on one connection, the best of three runs, less that of a run of 2; the last column is the time as a
@@ -11,9 +12,13 @@ multiple of the identity filter's.
 With --counts it tells how many instructions of the processor a byte takes, as valgrind counts them: of 3 requests, less those of one. That
 is the same on a machine with much other work. With OTHER, an older program, it also tells how many that one takes, and the ratio. Then come
 bodies of 2 and of 100 bytes through `upper`, a filter that no walk suits, and bodies of random bytes.
+
+With --compiled it tells the same of each filter that is there as a module written by hand and in the language for authors, and the ratio
+of the compiled one to the other.
 """
 import os
 import random
+import statistics
 import subprocess
 import sys
 import tempfile
@@ -99,8 +104,26 @@ def counts(programs):
         print('%-18s%s' % (name, ''.join('%10.1f' % each for each in took)) + ('%10.2f' % (took[0] / took[1]) if len(took) > 1 else ''), flush=True)
 
 
+def compiled(program):
+    """Tells the counts of the modules that are written by hand, and of those that the compiler makes of the same filter."""
+    print('%-12s %9s %9s %6s' % ('filter', 'by hand', 'compiled', 'ratio'))
+    ratios = []
+    for name, path in filters.filters():
+        source = os.path.join(TOP, 'filters', name + '.filter')
+        if not os.path.isfile(source):
+            continue
+        made = subprocess.run([program, 'compile', source], capture_output=True, check=True).stdout.decode('latin-1')
+        by_hand, by_compiler = (for_a_byte(program, module) for module in (filters.text_of(path), made))
+        ratios.append(by_compiler / max(by_hand, 1e-6))
+        print('%-12s %9.1f %9.1f %6.2f' % (name, by_hand, by_compiler, ratios[-1]), flush=True)
+    print('median %.2f, worst %.2f' % (statistics.median(ratios), max(ratios)))
+
+
 def main():
     words = sys.argv[1:]
+    if '--compiled' in words:
+        words.remove('--compiled')
+        return compiled(built(words[0] if words else BUILT))
     if '--counts' in words:
         words.remove('--counts')
         return counts([built(word) for word in words] or [built(BUILT)])

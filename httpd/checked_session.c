@@ -9,6 +9,7 @@
 
 enum {
     TEXT_MOST = 16 << 20, /* bytes of a text */
+    MESSAGE_MOST = 2048,  /* bytes of a message */
     KEPT_MOST = 1 << 20,  /* bytes that a session may hold and be kept */
     IDLE_MOST = 1024      /* sessions that are kept */
 };
@@ -97,11 +98,20 @@ void chain_begin(struct chain *chain)
     pthread_mutex_init(&chain->lock, NULL);
 }
 
+/* Makes room for so many bytes behind the others; null where there is no memory. */
+static unsigned char *room_behind(struct texts *texts, size_t more)
+{
+    unsigned char *bytes = realloc(texts->bytes, texts->length + more + 1);
+    if (bytes)
+        texts->bytes = bytes;
+    return bytes ? bytes + texts->length : NULL;
+}
+
 /* Puts the text of a file behind the others. A file that is not there is an empty text where it is `optional`. */
-static bool add_text(struct chain *chain, const char *name, bool optional, size_t *length, char *why, size_t room)
+static bool add_text(struct texts *texts, const char *name, bool optional, size_t *length, char *why, size_t room)
 {
     struct stat info;
-    unsigned char *texts;
+    unsigned char *bytes;
     FILE *file = fopen(name, "rb");
     const char *wrong = NULL;
     *length = 0;
@@ -111,12 +121,11 @@ static bool add_text(struct chain *chain, const char *name, bool optional, size_
         wrong = strerror(errno);
     else if (!S_ISREG(info.st_mode) || info.st_size > TEXT_MOST)
         wrong = "no regular file of at most 16 MiB";
-    else if (!(texts = realloc(chain->texts, chain->texts_length + (size_t)info.st_size + 1)))
+    else if (!(bytes = room_behind(texts, (size_t)info.st_size)))
         wrong = "no memory";
     else {
-        chain->texts = texts;
-        *length = fread(texts + chain->texts_length, 1, (size_t)info.st_size, file);
-        chain->texts_length += *length;
+        *length = fread(bytes, 1, (size_t)info.st_size, file);
+        texts->length += *length;
         if (*length != (size_t)info.st_size)
             wrong = "cannot be read";
     }
@@ -125,6 +134,18 @@ static bool add_text(struct chain *chain, const char *name, bool optional, size_
     if (wrong)
         snprintf(why, room, "%s: %s", name, wrong);
     return !wrong;
+}
+
+static bool is_filter_name(const char *file)
+{
+    static const char END[] = ".filter";
+    size_t length = strlen(file), end = sizeof END - 1;
+    return length >= end && !memcmp(file + length - end, END, end);
+}
+
+bool is_setting(const char *word)
+{
+    return strchr(word, '=') != NULL;
 }
 
 bool chain_add(struct chain *chain, const char *file, char *why, size_t room)
@@ -141,16 +162,41 @@ bool chain_add(struct chain *chain, const char *file, char *why, size_t room)
         return false;
     }
     chain->count++;
-    return add_text(chain, file, false, &chain->lengths[index].module, why, room) &&
-           add_text(chain, cert, true, &chain->lengths[index].certificate, why, room);
+    chain->lengths[index].kind = is_filter_name(file) ? CIDAWRU_FILTER : CIDAWRU_MODULE;
+    return add_text(&chain->texts, file, false, &chain->lengths[index].text, why, room) &&
+           (is_filter_name(file) || add_text(&chain->texts, cert, true, &chain->lengths[index].certificate, why, room));
 }
 
+bool chain_set(struct chain *chain, const char *word, char *why, size_t room)
+{
+    size_t length = strlen(word);
+    unsigned char *bytes = chain->setting_count < CHAIN_SETTINGS ? room_behind(&chain->settings, length) : NULL;
+    if (!bytes) {
+        snprintf(why, room, chain->setting_count < CHAIN_SETTINGS ? "no memory" : "a chain takes at most 64 settings");
+        return false;
+    }
+    memcpy(bytes, word, length);
+    chain->settings.length += length;
+    chain->setting_lengths[chain->setting_count++] = length;
+    return true;
+}
+
+/* Why a chain is refused: what the library tells, and the front of its message. */
+struct refused {
+    struct cidawru_told told;
+    unsigned char message[MESSAGE_MOST];
+};
+
 /* The line that tells why a chain is refused. */
-static void tell(const struct chain *chain, const struct cidawru_told *told, char *why, size_t room)
+static void tell(const struct chain *chain, const struct refused *refused, char *why, size_t room)
 {
     static const char *const RULES[] = {"shape", "entry", "flow", "exit", "request"};
+    const struct cidawru_told *told = &refused->told;
     const char *file = told->module < chain->count ? chain->files[told->module] : "";
     unsigned long long place = told->place;
+    int length = told->message < MESSAGE_MOST ? (int)told->message : MESSAGE_MOST;
+    if (length > 0 && refused->message[length - 1] == '\n')
+        length--;
     if (told->what == CIDAWRU_TOLD_NO_MODULE)
         snprintf(why, room, "%s: asm line %llu code %u", file, place, (unsigned)told->code);
     else if (told->what == CIDAWRU_TOLD_NO_CERT)
@@ -159,6 +205,10 @@ static void tell(const struct chain *chain, const struct cidawru_told *told, cha
         snprintf(why, room, "%s: refused at %llu: %s", file, place, RULES[told->code - CIDAWRU_RULE_SHAPE]);
     else if (told->what == CIDAWRU_TOLD_REFUSED)
         snprintf(why, room, "%s: refused at %llu: F%u", file, place, (unsigned)told->code);
+    else if (told->what == CIDAWRU_TOLD_NO_FILTER)
+        snprintf(why, room, "%s: %.*s", file, length, (const char *)refused->message);
+    else if (told->what == CIDAWRU_TOLD_NO_SETTING)
+        snprintf(why, room, "%.*s", length, (const char *)refused->message);
     else
         snprintf(why, room, told->what == CIDAWRU_TOLD_NO_MEMORY ? "no memory" : "a chain has 1 to 16 modules");
 }
@@ -172,20 +222,27 @@ static void end_session(struct session *session)
     free(session);
 }
 
-/* A new session; null where the chain is refused, as `told` says. */
-static struct session *new_session(const struct chain *chain, uint64_t budget, size_t limit, struct cidawru_told *told)
+/* The bytes, or what is no null pointer where there are none. */
+static const unsigned char *bytes_of(const struct texts *texts)
 {
     static const unsigned char none[1];
+    return texts->bytes ? texts->bytes : none;
+}
+
+/* A new session; null where the chain is refused, as `refused` says. */
+static struct session *new_session(const struct chain *chain, uint64_t budget, size_t limit, struct refused *refused)
+{
     bool made;
     struct session *session = calloc(1, sizeof *session);
     if (!session) {
-        told->what = CIDAWRU_TOLD_NO_MEMORY;
+        refused->told = (struct cidawru_told){.what = CIDAWRU_TOLD_NO_MEMORY};
         return NULL;
     }
     session->budget = budget;
     session->most = SIZE_MAX; /* a chain that was accepted is made, whatever that takes */
     in_hand = session;
-    made = cidawru_new(&session->handle, chain->texts ? chain->texts : none, chain->texts_length, chain->lengths, chain->count, budget, told);
+    made = cidawru_new(&session->handle, bytes_of(&chain->texts), chain->texts.length, chain->lengths, chain->count, bytes_of(&chain->settings),
+                       chain->settings.length, chain->setting_lengths, chain->setting_count, budget, &refused->told, refused->message, MESSAGE_MOST);
     in_hand = NULL;
     session->most = limit;
     if (made)
@@ -197,12 +254,12 @@ static struct session *new_session(const struct chain *chain, uint64_t budget, s
 
 bool chain_check(struct chain *chain, char *why, size_t room)
 {
-    struct cidawru_told told = {0};
-    struct session *session = new_session(chain, CHAIN_BUDGET, SIZE_MAX, &told);
+    struct refused refused;
+    struct session *session = new_session(chain, CHAIN_BUDGET, SIZE_MAX, &refused);
     if (session)
         end_session(session);
     else
-        tell(chain, &told, why, room);
+        tell(chain, &refused, why, room);
     return session != NULL;
 }
 
@@ -226,13 +283,14 @@ void chain_free(struct chain *chain)
     chain_rest(chain);
     for (size_t k = 0; k < CHAIN_MODULES; k++)
         free(chain->files[k]);
-    free(chain->texts);
+    free(chain->texts.bytes);
+    free(chain->settings.bytes);
     pthread_mutex_destroy(&chain->lock);
 }
 
 struct session *session_take(struct chain *chain, uint64_t budget, size_t limit)
 {
-    struct cidawru_told told;
+    struct refused refused;
     struct session *session, **at;
     pthread_mutex_lock(&chain->lock);
     for (at = &chain->idle; *at && (*at)->budget != budget; at = &(*at)->next) {
@@ -245,7 +303,7 @@ struct session *session_take(struct chain *chain, uint64_t budget, size_t limit)
     }
     pthread_mutex_unlock(&chain->lock);
     if (!session)
-        return new_session(chain, budget, limit, &told);
+        return new_session(chain, budget, limit, &refused);
     session->most = limit;
     session->limited = false;
     return session;

@@ -12,7 +12,8 @@
 #include "cidawru.h"
 
 enum {
-    CHAIN_MODULES = 16,          /* the most modules of a chain */
+    CHAIN_MODULES = 16,          /* the most modules and filters of a chain */
+    CHAIN_SETTINGS = 64,         /* the most settings of its params */
     CHAIN_BUDGET = 1000000,      /* instructions of a call, where nothing else is said */
     CHAIN_LIMIT = 64 << 20,      /* bytes that a session may hold, likewise */
     CHAIN_LEAST_LIMIT = 1 << 20, /* the least limit that may be set */
@@ -36,12 +37,19 @@ struct session {
     struct session *next;
 };
 
-/* Modules in their order, with certificates where they have some, and the sessions of this process that nobody uses. */
+/* Texts one after another. */
+struct texts {
+    unsigned char *bytes; /* null: none */
+    size_t length;
+};
+
+/* Modules in their order, with certificates where they have some, and filters; settings; and the sessions of this process that nobody uses. */
 struct chain {
     char *files[CHAIN_MODULES];
-    unsigned char *texts; /* the modules and certificates, one after another */
-    size_t texts_length, count; /* of modules */
+    struct texts texts, settings; /* modules, filters and certificates; words PARAM=VALUE */
+    size_t count, setting_count;  /* of modules and filters; of settings */
     struct cidawru_lengths lengths[CHAIN_MODULES];
+    size_t setting_lengths[CHAIN_SETTINGS];
     struct session *idle;
     unsigned idle_count;
     pthread_mutex_t lock; /* of the idle ones */
@@ -50,10 +58,18 @@ struct chain {
 /* The empty chain. */
 void chain_begin(struct chain *);
 
-/* Adds the module of a file, and the certificate of FILE.cert where that is there. False: `why` has a line that says what is wrong. */
+/* Whether a word of the configuration is a setting, PARAM=VALUE or FILTER.PARAM=VALUE, and no name of a file. */
+bool is_setting(const char *word);
+
+/* Adds the filter of a file whose name ends in .filter; of any other file the module, and the certificate of FILE.cert where that is there. False:
+ * `why` has a line that says what is wrong. */
 bool chain_add(struct chain *, const char *file, char *why, size_t room);
 
-/* Whether the chain is accepted; else `why` has a line with the file, the line or the instruction, and the code or the rule. */
+/* Adds a setting, likewise. */
+bool chain_set(struct chain *, const char *word, char *why, size_t room);
+
+/* Whether the chain is accepted; else `why` has a line with the file, the line or the instruction, and the code or the rule; of a filter the line,
+ * the column and what is wrong. */
 bool chain_check(struct chain *, char *why, size_t room);
 
 /* Frees the sessions that nobody uses. */

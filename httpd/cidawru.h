@@ -1,6 +1,7 @@
 /* The proved host of filters, as a static library: libhost_lib.a, which `rt lib` makes in crates/host_lib.
  *
- * A session is a host of one chain of modules, which was checked. It has any number of connections, each with requests one after another.
+ * A session is a host of one chain of modules, which was checked; a filter in the language for authors is compiled to one. It has any number of
+ * connections, each with requests one after another.
  * What each function is proved to do stands at its text, crates/host_lib/src/lib.rt; tests/header.py compares that with this file.
  *
  * The caller owes:
@@ -30,27 +31,37 @@ struct cidawru {
     bool held; /* whether it holds one */
 };
 
-/* How long the texts of a module and of its certificate are. A certificate of length 0 is made. */
+/* A text of a chain, and that of its certificate. */
 struct cidawru_lengths {
-    size_t module;
-    size_t certificate;
+    size_t text;        /* how long the module's is, or the filter's */
+    size_t certificate; /* how long the certificate's is. One of length 0 is made; a filter's is not read, as the compiler makes one */
+    uint32_t kind;      /* CIDAWRU_MODULE or CIDAWRU_FILTER */
 };
+
+/* The kinds of texts: a module, and a filter in the language for authors. */
+enum { CIDAWRU_MODULE, CIDAWRU_FILTER };
 
 /* Why a chain is refused. */
 struct cidawru_told {
-    uint32_t what;   /* a CIDAWRU_TOLD_ number; 0 where it is taken */
-    uint32_t code;   /* the code of the line, 1 to 11 of a module's and 1 to 3 of a certificate's; or a CIDAWRU_RULE_ number */
-    uint64_t module; /* which module, from 0 on */
-    uint64_t place;  /* the line of its text or certificate, from 1 on; or the instruction, from 0 on */
+    uint32_t what;    /* a CIDAWRU_TOLD_ number; 0 where it is taken */
+    uint32_t code;    /* the code of the line, 1 to 11 of a module's and 1 to 3 of a certificate's; or a CIDAWRU_RULE_ number */
+    uint64_t module;  /* which text, from 0 on */
+    uint64_t place;   /* the line of a text or certificate, from 1 on; or the instruction, from 0 on */
+    uint64_t column;  /* of a filter: the column in the line, from 1 on */
+    uint64_t message; /* how many bytes the message has; the buffer has its front */
 };
 
 enum {
-    CIDAWRU_TOLD_NO_CHAIN = 1, /* no module, or over 16; or the lengths are not together that of the texts */
+    CIDAWRU_TOLD_NO_CHAIN = 1, /* no text, or over 16; or the lengths are not together that of the texts, or of the settings */
     CIDAWRU_TOLD_NO_MEMORY,    /* there is no memory */
     CIDAWRU_TOLD_NO_MODULE,    /* a text is no module: module, place (line), code */
     CIDAWRU_TOLD_NO_CERT,      /* a text is no certificate: module, place (line), code */
     CIDAWRU_TOLD_REFUSED,      /* a module is refused: module, place (instruction), code (rule) */
-    CIDAWRU_TOLD_HELD          /* the handle holds a session already, which stays */
+    CIDAWRU_TOLD_HELD,         /* the handle holds a session already, which stays */
+    CIDAWRU_TOLD_NO_FILTER,    /* a filter is not compiled: module, place (line), column, message. The place is 0 for the value of a setting, and for
+                                  an internal error */
+    CIDAWRU_TOLD_NO_SETTING,   /* a setting is none, or no filter has a param for it: message */
+    CIDAWRU_TOLD_NO_KIND       /* a text is of no kind: module */
 };
 
 /* The rule that a module fails. F1 to F10 are 1 to 10: the instruction may have that fault. */
@@ -89,12 +100,18 @@ enum {
 /* The kinds of pieces. A TRANSIENT piece's bytes are copied too: the word is what the filters see. */
 enum { CIDAWRU_HEAP, CIDAWRU_TRANSIENT, CIDAWRU_IMMORTAL, CIDAWRU_POOL, CIDAWRU_FLUSH, CIDAWRU_EOS };
 
-/* Makes a session of a chain of `count` modules, 1 to 16. Their texts stand one after another: a module, its certificate, the next module ..;
- * together they are `texts_length` bytes. A call executes at most `budget` instructions. False: the handle holds what it held, and `told` has
- * why. First all texts are read, from the first on; then certificates that are missing are made; then each module is checked. The first
+/* Makes a session of a chain of `count` texts, 1 to 16. They stand one after another: a module or a filter, its certificate, the next one ..;
+ * together they are `texts_length` bytes. The words of `setting_count` settings stand one after another as well: PARAM=VALUE, for each filter that
+ * has such a param, or FILTER.PARAM=VALUE, for those that begin with `filter FILTER` alone; of two for one param the last counts. A call executes
+ * at most `budget` instructions.
+ *
+ * False: the handle holds what it held, `told` has why, and the buffer as much of the message as there is room for: a line that ends with LF,
+ * `line L, column C: WHAT`, `cannot set NAME: WHY` or `internal error: WHAT`. First the settings are read, then all texts, from the first on, where
+ * filters are compiled; then each setting must be one of them; then certificates that are missing are made; then each module is checked. The first
  * refusal of these is told. */
 bool cidawru_new(struct cidawru *handle, const unsigned char *texts, size_t texts_length, const struct cidawru_lengths *lengths,
-                 size_t count, uint64_t budget, struct cidawru_told *told);
+                 size_t count, const unsigned char *settings, size_t settings_length, const size_t *setting_lengths,
+                 size_t setting_count, uint64_t budget, struct cidawru_told *told, unsigned char *buffer, size_t room);
 
 /* Ends a session, with all that it holds; the handle is as { 0 } again. It needs no memory. Of a handle that holds none: does nothing. */
 void cidawru_free(struct cidawru *handle);

@@ -1,6 +1,7 @@
 /* Output filters of Apache httpd whose modules were checked.
  *
- *     CheckedFilter NAME FILE..   reads and checks the modules of a chain with the configuration, and makes them the output filter NAME
+ *     CheckedFilter NAME FILE.. [PARAM=VALUE]..   reads and checks the modules of a chain with the configuration, and makes them the output filter
+ *                                                 NAME. A file whose name ends in .filter is compiled; the params of such filters may be set
  *
  * The data of each brigade is brought to a session of the chain in pieces; what it puts out becomes heap buckets. The lifetimes that were
  * proved are those of the pieces in the session: no bucket of httpd gets to a module. */
@@ -18,7 +19,10 @@
 extern module AP_MODULE_DECLARE_DATA checked_filter_module;
 APLOG_USE_MODULE(checked_filter);
 
-enum { FILTERS = 256 };
+enum {
+    FILTERS = 256,
+    WORDS = 64 /* of a line: httpd leaves out those behind them */
+};
 
 /* A filter of the configuration. */
 struct checked {
@@ -415,20 +419,26 @@ static apr_status_t free_chain(void *data)
     return APR_SUCCESS;
 }
 
+/* Adds a word of the directive: a setting, or the file of a module or of a filter. False: `why` has what is wrong. */
+static int add_word(cmd_parms *cmd, struct chain *chain, const char *word, char *why, apr_size_t room)
+{
+    const char *file;
+    if (is_setting(word))
+        return chain_set(chain, word, why, room);
+    file = ap_server_root_relative(cmd->pool, word);
+    if (!file)
+        apr_snprintf(why, room, "%s: no name of a file", word);
+    return file && chain_add(chain, file, why, room);
+}
+
 /* Reads and checks the files of a filter. */
-static const char *load(cmd_parms *cmd, struct checked *checked, int count, char *const files[])
+static const char *load(cmd_parms *cmd, struct checked *checked, int count, char *const words[])
 {
     char why[4400];
-    for (int k = 0; k < count; k++) {
-        const char *file = ap_server_root_relative(cmd->pool, files[k]);
-        if (strchr(files[k], '='))
-            return apr_psprintf(cmd->pool, "CheckedFilter %s: %s: a module takes no parameters", checked->name, files[k]);
-        if (!file)
-            return apr_psprintf(cmd->pool, "CheckedFilter %s: %s: no name of a file", checked->name, files[k]);
-        if (!chain_add(&checked->chain, file, why, sizeof why))
-            return apr_psprintf(cmd->pool, "CheckedFilter %s: %s", checked->name, why);
-    }
-    if (!chain_check(&checked->chain, why, sizeof why))
+    int k = 0;
+    while (k < count && add_word(cmd, &checked->chain, words[k], why, sizeof why))
+        k++;
+    if (k < count || !chain_check(&checked->chain, why, sizeof why))
         return apr_psprintf(cmd->pool, "CheckedFilter %s: %s", checked->name, why);
     return NULL;
 }
@@ -442,7 +452,9 @@ static const char *add_filter(cmd_parms *cmd, void *config, int argc, char *cons
     if (wrong)
         return wrong;
     if (argc < 2)
-        return "CheckedFilter: a name, and the files of 1 to 16 modules";
+        return "CheckedFilter: a name, and the files of 1 to 16 modules or filters";
+    if (argc == WORDS)
+        return "CheckedFilter: at most 62 files and settings";
     if (filters_count == FILTERS)
         return "CheckedFilter: there are 256 filters already";
     name = apr_pstrdup(cmd->pool, argv[0]);
@@ -531,7 +543,8 @@ static void begin_child(apr_pool_t *pool, server_rec *server)
 }
 
 static const command_rec commands[] = {
-    AP_INIT_TAKE_ARGV("CheckedFilter", add_filter, NULL, RSRC_CONF, "a name, and the files of 1 to 16 modules; FILE.cert has the certificate of FILE"),
+    AP_INIT_TAKE_ARGV("CheckedFilter", add_filter, NULL, RSRC_CONF,
+                      "a name, the files of 1 to 16 modules or filters, and PARAM=VALUE; FILE.cert has the certificate of a module"),
     AP_INIT_TAKE1("CheckedFilterBudget", set_budget, NULL, RSRC_CONF, "how many instructions a call may execute, of the filters below"),
     AP_INIT_TAKE1("CheckedFilterLimit", set_limit, NULL, RSRC_CONF, "how many bytes of memory a request may hold, of the filters below"),
     AP_INIT_TAKE1("CheckedFilterScope", set_scope, NULL, RSRC_CONF, "whether a connection of the filters below is a request or a connection"),

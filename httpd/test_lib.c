@@ -57,12 +57,13 @@ static void is(const char *what, unsigned long found, unsigned long due)
     }
 }
 
-/* The texts of a chain, one after another. */
+/* The texts of a chain, one after another, and settings. */
 struct texts {
-    unsigned char bytes[1 << 18];
-    size_t length;
+    unsigned char bytes[1 << 18], settings[2048];
+    size_t length, settings_length;
     struct cidawru_lengths lengths[20];
-    size_t count;
+    size_t setting_lengths[8];
+    size_t count, setting_count;
 };
 
 static size_t add_file(struct texts *texts, const char *folder, const char *name)
@@ -89,37 +90,79 @@ static void add(struct texts *texts, const char *folder, const char *name, bool 
     char cert[256];
     struct cidawru_lengths *lengths = &texts->lengths[texts->count++];
     snprintf(cert, sizeof cert, "%s.cert", name);
-    lengths->module = add_file(texts, folder, name);
+    lengths->text = add_file(texts, folder, name);
     lengths->certificate = certified ? add_file(texts, folder, cert) : 0;
 }
 
 static void add_text(struct texts *texts, const char *module, const char *certificate)
 {
     struct cidawru_lengths *lengths = &texts->lengths[texts->count++];
-    lengths->module = strlen(module);
+    lengths->text = strlen(module);
     lengths->certificate = strlen(certificate);
-    memcpy(texts->bytes + texts->length, module, lengths->module);
-    texts->length += lengths->module;
+    memcpy(texts->bytes + texts->length, module, lengths->text);
+    texts->length += lengths->text;
     memcpy(texts->bytes + texts->length, certificate, lengths->certificate);
     texts->length += lengths->certificate;
 }
 
+static void add_filter(struct texts *texts, const char *filter)
+{
+    add_text(texts, filter, "");
+    texts->lengths[texts->count - 1].kind = CIDAWRU_FILTER;
+}
+
+static void set(struct texts *texts, const char *word)
+{
+    size_t length = strlen(word);
+    texts->setting_lengths[texts->setting_count++] = length;
+    memcpy(texts->settings + texts->settings_length, word, length);
+    texts->settings_length += length;
+}
+
+/* The message of what was refused last. */
+static unsigned char message[64];
+
 static bool make(struct cidawru *handle, const struct texts *texts, uint64_t budget, struct cidawru_told *told)
 {
-    return cidawru_new(handle, texts->bytes, texts->length, texts->lengths, texts->count, budget, told);
+    memset(message, '.', sizeof message);
+    return cidawru_new(handle, texts->bytes, texts->length, texts->lengths, texts->count, texts->settings, texts->settings_length,
+                       texts->setting_lengths, texts->setting_count, budget, told, message, sizeof message);
 }
 
 /* What a chain that is refused tells; `blocks` are all free again. */
 static void refused(const char *name, const struct texts *texts, uint32_t what, uint64_t module, uint64_t place, uint32_t code)
 {
     struct cidawru handle = {0};
-    struct cidawru_told told = {9, 9, 9, 9};
+    struct cidawru_told told = {9, 9, 9, 9, 9, 9};
     part = name;
     is("new", make(&handle, texts, 1000, &told), false);
     is("what", told.what, what);
     is("module", told.module, module);
     is("place", told.place, place);
     is("code", told.code, code);
+    is("column", told.column, 0);
+    is("message", told.message, 0);
+    is("buffer", message[0], '.');
+    is("held", handle.held, false);
+    is("blocks", blocks, 0);
+}
+
+/* What a chain tells of whose filters or settings one is refused: the place, and the front of a message. */
+static void refused_filter(const char *due, const struct texts *texts, uint32_t what, uint64_t module, uint64_t place, uint64_t column)
+{
+    struct cidawru handle = {0};
+    struct cidawru_told told = {9, 9, 9, 9, 9, 9};
+    size_t length = strlen(due), shown = length < sizeof message ? length : sizeof message;
+    part = due;
+    is("new", make(&handle, texts, 1000, &told), false);
+    is("what", told.what, what);
+    is("module", told.module, module);
+    is("place", told.place, place);
+    is("column", told.column, column);
+    is("code", told.code, 0);
+    is("length of the message", told.message, length);
+    is("message", memcmp(message, due, shown), 0);
+    is("behind it", shown == sizeof message || message[shown] == '.', true);
     is("held", handle.held, false);
     is("blocks", blocks, 0);
 }
@@ -128,6 +171,47 @@ static const char PASSES[] = "module 1\nopen\n  ret ok\ninit\n  ret ok\nmain\n  
 static const char LOOPS[] = "module 1\nopen\n  ret ok\ninit\n  ret ok\nmain\n:again\n  jump again\nend\n";
 static const char FAILS[] = "module 1\nopen\n  ret ok\ninit\n  ret ok\nmain\n  ret fail\nend\n";
 static const char FAULTS[] = "module 1\nbrigade b0 req\nopen\n  ret ok\ninit\n  ret ok\nmain\n  bclean b0\n  ret ok\nend\n";
+
+static const char WORD[] = "filter word\nparam word = \"x\"\nparam most = 3\nvar left = most\non byte b { if left > 0 { emit word left -= 1 } else { emit b } }\n";
+
+static void tells_why_of_filters(void)
+{
+    static struct texts texts, none;
+    static char name[100], due[160];
+    add_text(&texts, PASSES, "");
+    add_filter(&texts, "filter f\non byte b { emit c }\n");
+    refused_filter("line 2, column 18: `c` is not declared\n", &texts, CIDAWRU_TOLD_NO_FILTER, 1, 2, 18);
+    texts = none;
+    add_filter(&texts, WORD);
+    set(&texts, "most=4");
+    set(&texts, "word.most=-4");
+    refused_filter("cannot set word.most: a number from 0 to 4294967295 is due\n", &texts, CIDAWRU_TOLD_NO_FILTER, 0, 0, 0);
+    texts.setting_count--;
+    texts.settings_length -= strlen("word.most=-4");
+    set(&texts, "last=4");
+    refused_filter("cannot set last: no filter here has such a param\n", &texts, CIDAWRU_TOLD_NO_SETTING, 0, 0, 0);
+    texts.settings_length--;
+    refused("a setting too long", &texts, CIDAWRU_TOLD_NO_CHAIN, 0, 0, 0);
+    texts.settings_length++;
+    texts.setting_lengths[0] = SIZE_MAX;
+    refused("a length too large", &texts, CIDAWRU_TOLD_NO_CHAIN, 0, 0, 0);
+    texts = none;
+    add_filter(&texts, WORD);
+    set(&texts, "most");
+    refused_filter("cannot set most: NAME=VALUE is due\n", &texts, CIDAWRU_TOLD_NO_SETTING, 0, 0, 0);
+    texts = none;
+    add_filter(&texts, WORD);
+    memset(name, 'n', sizeof name - 1);
+    name[98] = '=';
+    set(&texts, name);
+    snprintf(due, sizeof due, "cannot set %.98s: no filter here has such a param\n", name);
+    refused_filter(due, &texts, CIDAWRU_TOLD_NO_SETTING, 0, 0, 0);
+    texts = none;
+    add_filter(&texts, WORD);
+    add_text(&texts, PASSES, "");
+    texts.lengths[1].kind = 2;
+    refused("no kind", &texts, CIDAWRU_TOLD_NO_KIND, 1, 0, 0);
+}
 
 static void tells_why(void)
 {
@@ -283,6 +367,41 @@ static void serves(const char *folder, bool certified, uint64_t most)
     is("blocks", blocks, 0);
 }
 
+/* A filter in the language for authors, with a module behind it; of two settings of a param the last counts. */
+static void compiles(const char *folder, const char *number, const char *word, const char *due)
+{
+    static struct texts texts, none;
+    struct cidawru handle = {0};
+    struct cidawru_told told;
+    uint64_t at = 0;
+    part = due;
+    texts = none;
+    add_filter(&texts, WORD);
+    memcpy(texts.bytes + texts.length, "not read", 8);
+    texts.length += texts.lengths[0].certificate = 8;
+    add(&texts, folder, "suffix.mod", true);
+    if (number) {
+        set(&texts, "most=5");
+        set(&texts, number);
+    }
+    if (word)
+        set(&texts, word);
+    is("new", make(&handle, &texts, 1000000, &told), true);
+    is("told", told.what, 0);
+    is("buffer", message[0], '.');
+    is("open", cidawru_open(&handle, &at), CIDAWRU_DONE);
+    is("run", run(&handle, at, 2), CIDAWRU_DONE);
+    is("begin", cidawru_begin(&handle, at), CIDAWRU_DONE);
+    is("run", run(&handle, at, 2), CIDAWRU_DONE);
+    is("piece", piece(&handle, at, CIDAWRU_HEAP, "abcd"), CIDAWRU_DONE);
+    is("piece", piece(&handle, at, CIDAWRU_EOS, ""), CIDAWRU_DONE);
+    is("bring", cidawru_bring(&handle, at), CIDAWRU_DONE);
+    is("run", run(&handle, at, 2), CIDAWRU_DONE);
+    says(&handle, at, due);
+    cidawru_free(&handle);
+    is("blocks", blocks, 0);
+}
+
 /* What a filter answers that fails, and one that makes more steps than it may. */
 static void breaks(const char *module, uint32_t due)
 {
@@ -307,7 +426,7 @@ static void breaks(const char *module, uint32_t due)
 }
 
 /* A session, a connection and a request, with memory refused from one asking on. Nothing but that is answered, and all is freed. */
-static bool ends_without_memory(const char *folder, long from)
+static bool ends_without_memory(const char *folder, bool as_filter, long from)
 {
     static struct texts texts, none;
     struct cidawru handle = {0};
@@ -318,7 +437,8 @@ static bool ends_without_memory(const char *folder, long from)
     bool whole = false;
     part = "want of memory";
     texts = none;
-    add(&texts, folder, "upper.mod", false);
+    add(&texts, folder, as_filter ? "upper.filter" : "upper.mod", false);
+    texts.lengths[0].kind = as_filter ? CIDAWRU_FILTER : CIDAWRU_MODULE;
     asked = 0;
     refuse_from = from;
     if (!make(&handle, &texts, 1000000, &told)) {
@@ -342,19 +462,24 @@ static bool ends_without_memory(const char *folder, long from)
 
 int main(int argc, char **argv)
 {
-    long from = 1;
+    long from[2] = {1, 1};
     if (argc != 2)
         return 2;
     tells_why();
+    tells_why_of_filters();
     of_no_session();
     serves(argv[1], true, UINT64_MAX);
     serves(argv[1], false, 3);
     serves(argv[1], true, 0);
+    compiles(argv[1], NULL, NULL, "xxxd-- end --\n");
+    compiles(argv[1], "word.most=1", "word=yz", "yzbcd-- end --\n");
+    compiles(argv[1], "most=0", NULL, "abcd-- end --\n");
     breaks(PASSES, CIDAWRU_DONE);
     breaks(FAILS, CIDAWRU_FAILED);
     breaks(LOOPS, CIDAWRU_BROKE_BUDGET);
-    while (!ends_without_memory(argv[1], from) && wrong == 0)
-        from++;
-    printf("test_lib: memory refused at each of %ld askings; %d answers not as they should be\n", from - 1, wrong);
+    for (int k = 0; k < 2; k++)
+        while (!ends_without_memory(argv[1], k > 0, from[k]) && wrong == 0)
+            from[k]++;
+    printf("test_lib: memory refused at each of %ld askings; %d answers not as they should be\n", from[0] + from[1] - 2, wrong);
     return wrong != 0;
 }

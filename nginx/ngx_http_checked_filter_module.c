@@ -1,7 +1,8 @@
 /* A body filter of nginx whose modules were checked.
  *
- *     checked_filter FILE..;   reads and checks the modules of a chain with the configuration, and filters what this http, server or location
- *                              answers; checked_filter off; ends that
+ *     checked_filter FILE.. [PARAM=VALUE]..;   reads and checks the modules of a chain with the configuration, and filters what this http, server
+ *                                              or location answers. A file whose name ends in .filter is compiled; params of such filters may be
+ *                                              set. checked_filter off; ends that
  *
  * A worker has one thread. So calls of a chain run in slices, and between them other connections have their turn. The header waits until there
  * is output to pass on: a filter that fails before that costs a 500, and afterwards the connection. */
@@ -344,11 +345,10 @@ static char *set_filter(ngx_conf_t *cf, ngx_command_t *command, void *data)
     chain_begin(conf->chain);
     cleanup->handler = free_chain;
     for (ngx_uint_t k = 1; k < cf->args->nelts; k++) {
-        if (ngx_strchr(words[k].data, '='))
-            return refuse(cf, "a module takes no parameters, as NAME=VALUE is");
-        if (ngx_conf_full_name(cf->cycle, &words[k], 1) != NGX_OK)
+        int set = is_setting((char *)words[k].data);
+        if (!set && ngx_conf_full_name(cf->cycle, &words[k], 1) != NGX_OK)
             return NGX_CONF_ERROR;
-        if (!chain_add(conf->chain, (char *)words[k].data, why, sizeof why))
+        if (!(set ? chain_set : chain_add)(conf->chain, (char *)words[k].data, why, sizeof why))
             return refuse(cf, why);
     }
     return chain_check(conf->chain, why, sizeof why) ? NGX_CONF_OK : refuse(cf, why);

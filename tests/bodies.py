@@ -115,6 +115,12 @@ def stopped(program):
     with tempfile.TemporaryDirectory() as folder:
         missing = os.path.join(folder, 'none.mod')
         yield 'a file that is not there', filtered(program, [missing], b'abc')[::2], (b'cannot read %s\n' % missing.encode(), 1)
+        wrong = os.path.join(folder, 'wrong.filter')
+        with open(wrong, 'w') as file:
+            file.write('filter f\non byte b { emit b; }\n')
+        what = b'line 2, column 19: no `;` is needed\n'
+        shown = b'%s: %son byte b { emit b; }\n%s^\n' % (wrong.encode(), what, b' ' * 18)
+        yield 'a filter that is refused', filtered(program, [module('upper'), wrong], b'abc'), (b'refused module 1 at ' + what, shown, 1)
     yield 'no byte', filtered(program, [module('upper')], b''), (b'', b'', 0)
     folder = os.open('/', os.O_RDONLY)
     done = subprocess.run([program, 'filter', module('upper')], stdin=folder, capture_output=True, timeout=SECONDS)

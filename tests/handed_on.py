@@ -13,11 +13,7 @@ import re
 import sys
 
 TOP = os.path.dirname(os.path.dirname(os.path.abspath(__file__)))
-NO_CALLERS = {'host_cli', 'host_lib', 'worked_rows'}
-# Those that do not yet.
-NOT_YET = {'author_code', 'author_compile', 'block_bytes', 'bucket_kinds', 'bucket_ring', 'byte_text', 'filter_files', 'http_front', 'http_message',
-           'http_serve', 'life_cert', 'line_help', 'module_run', 'module_tools', 'ring_passes', 'ring_run', 'script_play', 'script_text',
-           'stored_rings'}
+NO_CALLERS = {'host_cli', 'host_lib', 'acceptance'}
 USE = re.compile(r'^(pub )?use (\w+)((?:::\w+)*)(?:::(\{[^}]*\}))?;', re.M)
 CONTRACT = re.compile(r'^\s*(requires|ensures|ghost|decreases|#\[|//)')
 IMPL = re.compile(r'^impl(?:<[^{]*?>)? (?:(?P<of>[\w:<>, ]+) for )?(?P<name>\w+)')
@@ -104,7 +100,7 @@ def faults():
     """What is named and not handed on, a line for each."""
     known = crates()
     return ['%s names %s of %s in %s, and does not hand it on' % (crate, name, lower, ', '.join(sorted(owners)))
-            for crate in sorted(known - NO_CALLERS - NOT_YET)
+            for crate in sorted(known - NO_CALLERS)
             for (name, lower), owners in sorted(missing(crate, known).items())]
 
 

@@ -17,8 +17,8 @@ HEADER = os.path.join(TOP, 'httpd', 'cidawru.h')
 # How a type of Rattle is declared in C. A slice is a pointer and a length; a Global has no bytes.
 STRUCTS = {'Handle': 'cidawru', 'LoadTold': 'cidawru_told', 'TextLengths': 'cidawru_lengths'}
 NUMBERS = {'u64': 'uint64_t', 'u32': 'uint32_t', 'usize': 'size_t', 'bool': 'bool', 'u8': 'unsigned char', '': 'void'}
-# The names of a const of the code begin so in the header: those of answers.rt, and those of told.rt.
-NUMBERED = {'answers.rt': 'CIDAWRU_', 'told.rt': 'CIDAWRU_TOLD_'}
+# The names of a const of the code begin so in the header.
+NUMBERED = {'answers.rt': 'CIDAWRU_', 'told.rt': 'CIDAWRU_TOLD_', 'loading.rt': 'CIDAWRU_'}
 RULES = ['F1', 'F10', 'SHAPE', 'ENTRY', 'FLOW', 'EXIT', 'REQUEST']
 KINDS = ['HEAP', 'TRANSIENT', 'IMMORTAL', 'POOL', 'FLUSH', 'EOS']
 

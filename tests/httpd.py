@@ -6,9 +6,11 @@ Wanted are apache2 and apache2-dev of the system's package manager, and the libr
 another. With --quick valgrind is left out.
 """
 import argparse
+import glob
 import gzip
 import os
 import random
+import re
 import shutil
 import socket
 import subprocess
@@ -19,14 +21,19 @@ import time
 
 import filters
 from httpd_server import HERE, Build, Server, lacks
-from loopback import (LIBRARY, TOP, Backend, Faults, arrivals, ask, ask_once, certificate, client, curl, free_port, lib, page, tests_of,
-                      versions)
+from loopback import (LIBRARY, TOP, Backend, Faults, arrivals, ask, ask_once, certificate, client, curl, filters_to_play, free_port, lib, page,
+                      refused_filters, versions)
 
 KINDS = 'htipf'
 
 
-def checked(name, *paths):
-    return 'CheckedFilter %s %s\n' % (name, ' '.join(paths))
+def checked(name, *words):
+    return 'CheckedFilter %s %s\n' % (name, ' '.join(words))
+
+
+def quoted(word):
+    """A word of the configuration in quotes; a byte that ends a line cannot stand there."""
+    return None if re.search(r'[^ -~]', word) else '"%s"' % re.sub(r'(["\\])', r'\\\1', word)
 
 
 # ---- the filters, by their tests ----
@@ -42,15 +49,13 @@ def plan(chance, body, cut):
 
 def play_filters(build, mpm, faults):
     """Each filter and chain with each body of its tests, in many cuts."""
-    chance = random.Random('httpd')
-    played = [(name, [path], name + '.test') for name, path in filters.filters()]
-    played += [(name, paths, 'chains/%s.test' % name) for name, paths in filters.chains()]
+    chance, played = random.Random('httpd'), list(filters_to_play(quoted))
     text = 'CheckedFilterScope connection\nCheckedFilterBudget 100000000\n'
-    for name, paths, _ in played:
-        text += checked(name, *paths) + '<Location "/%s">\nSetHandler cuts\nSetOutputFilter %s\n</Location>\n' % (name, name)
+    for name, words, _ in played:
+        text += checked(name, *words) + '<Location "/%s">\nSetHandler cuts\nSetOutputFilter %s\n</Location>\n' % (name, name)
     with Server(build, mpm, text) as server:
-        for name, _, test in played:
-            for requests in tests_of(os.path.join(TOP, 'filters', 'tests', test)):
+        for name, _, bodies in played:
+            for requests in bodies:
                 play_body(server, chance, name, requests, faults)
     logged = [line for line in server.logged().split('\n') if 'checked_filter' in line and 'a filter failed' not in line]
     faults.due('%s: the log' % mpm, logged[:1], [])
@@ -73,10 +78,12 @@ def play_body(server, chance, name, requests, faults):
 # ---- the configuration ----
 
 REFUSED = [
-    ('CheckedFilter X', 'a name, and the files of 1 to 16 modules'),
+    ('CheckedFilter X', 'a name, and the files of 1 to 16 modules or filters'),
     ('CheckedFilter X no_such.mod', 'no_such.mod: No such file or directory'),
     ('CheckedFilter X {lib}/filters', 'no regular file'),
-    ('CheckedFilter X {lib}/filters/upper.mod word=x', 'word=x: a module takes no parameters'),
+    ('CheckedFilter X {lib}/filters/upper.mod word=x', 'CheckedFilter X: cannot set word: no filter here has such a param'),
+    ('CheckedFilter X {lib}/filters/prefix.filter' + ' text=x' * 62, 'at most 62 files and settings'),
+    ('CheckedFilter X text=x', 'a chain has 1 to 16 modules'),
     ('CheckedFilter DEFLATE {lib}/filters/upper.mod', 'there is a filter of this name'),
     ('CheckedFilter X {lib}/filters/upper.mod\nCheckedFilter x {lib}/filters/upper.mod', 'there is a filter of this name'),
     ('CheckedFilter X' + ' {lib}/filters/upper.mod' * 17, 'a chain has 1 to 16 modules'),
@@ -95,8 +102,14 @@ def configurations(build, faults):
     for text, wanted in REFUSED:
         status, told = build.told(text.replace('{lib}', TOP) + '\n')
         faults.due('%r is refused' % text[:60], (status != 0, wanted in told), (True, True))
-    status, told = build.told('CheckedFilter X' + ' %s' % lib('upper') * 16 + '\n')
-    faults.due('16 modules', (status, told), (0, 'Syntax OK\n'))
+    for words, wanted in refused_filters(build.folder):
+        status, told = build.told(checked('X', lib('upper'), words))
+        faults.due('%r is refused' % words, (status != 0, 'CheckedFilter X: %s\n' % wanted in told), (True, True))
+    real = sorted(glob.glob(os.path.join(TOP, 'tests', 'language', 'real', '*.filter')))
+    most = checked('X', *[lib('upper')] * 15, lib('prefix')[:-len('mod')] + 'filter', *['text=x'] * 46)
+    for text in (checked('X', *[lib('upper')] * 16), most, ''.join(checked('X%d' % k, path) for k, path in enumerate(real))):
+        status, told = build.told(text)
+        faults.due('%r' % text[:60], (status, told), (0, 'Syntax OK\n'))
     folder = os.path.join(TOP, 'tests', 'certificates')
     for name in sorted(os.listdir(folder)):
         if name.endswith(('.certify', '.check')):
@@ -128,6 +141,7 @@ CheckedFilter SUFFIX {lib}/suffix.mod
 CheckedFilter ABORT {lib}/abort.mod
 CheckedFilter PASS {lib}/new.module
 CheckedFilter BOTH {lib}/upper.mod {lib}/suffix.mod
+CheckedFilter MIXED {lib}/prefix.filter text=a {lib}/upper.mod "suffix.text= b" {lib}/suffix.filter {lib}/label_text.filter mark=
 CheckedFilterBudget 20000
 CheckedFilter SHORT {lib}/upper.mod
 CheckedFilterBudget 100000000
@@ -140,6 +154,7 @@ Options +Includes
 </Location>
 Alias /up {site}
 Alias /both {site}
+Alias /mixed {site}
 Alias /type {site}
 Alias /smart {site}
 Alias /gzip {site}
@@ -153,6 +168,9 @@ SetOutputFilter UPPER
 </Location>
 <Location /both>
 SetOutputFilter BOTH
+</Location>
+<Location /mixed>
+SetOutputFilter MIXED
 </Location>
 <Location /include>
 SetOutputFilter SUFFIX;UPPER
@@ -244,6 +262,7 @@ def whole_bodies(server, faults):
         faults.due('upper of %d' % length, ask_once(server.port, '/up/f%d' % length).body, big)
         faults.due('both of %d' % length, ask_once(server.port, '/both/f%d' % length).body, big + suffix)
         faults.due('pass of %d' % length, ask_once(server.port, '/pass/f%d' % length).body, page(length))
+        faults.due('a mixed chain, of %d' % length, ask_once(server.port, '/mixed/f%d' % length).body, b'A' + big + b' b')
         zipped = ask_once(server.port, '/gzip/f%d' % length, Accept_Encoding='gzip')
         body = gzip.decompress(zipped.body) if zipped.fields.get('Content-Encoding') == 'gzip' else zipped.body
         faults.due('gzip of %d' % length, body, big)

@@ -49,17 +49,17 @@ SOME = [
     ('model_laws', 'proofs/chains/Places.antt', r'instr\.NAME\b', 'it is a jump', False),
     ('life_state', 'proofs/InStateLaws.antt', r'branch_parts \(instr\.NAME\b', 'it tests a brigade, pool or cursor and jumps', False),
     ('life_state', 'proofs/FormRules.antt', r'leads \(instr\.NAME\b', 'the same; and in proofs/WithinRules.antt', False),
-    ('ring_calls', 'specs/EffectNeeds.antt', r'instr\.NAME\b', 'it jumps by a condition of its own (`instr_by`), or has a new effect', False),
-    ('ring_run', 'specs/InStore.antt', r'keeps_to_store .*instr\.NAME\b', 'it touches the store alone, and is to be fast (may be left out)', True),
-    ('ring_run', 'src/execute_in_store.rt', r'Instr::NAME\b', 'the same', True),
-    ('ring_run', 'proofs/Instructions.antt', r'instr\.NAME\b', 'it reads or clears a pool (`reads_so`, `pool_cleared`)', False),
+    ('interp_state', 'specs/EffectNeeds.antt', r'instr\.NAME\b', 'it jumps by a condition of its own (`instr_by`), or has a new effect', False),
+    ('interp_exec', 'specs/InStore.antt', r'keeps_to_store .*instr\.NAME\b', 'it touches the store alone, and is to be fast (may be left out)', True),
+    ('interp_exec', 'src/execute_in_store.rt', r'Instr::NAME\b', 'the same', True),
+    ('interp_exec', 'proofs/Instructions.antt', r'instr\.NAME\b', 'it reads or clears a pool (`reads_so`, `pool_cleared`)', False),
     ('model_laws', 'proofs/Passed.antt', r'instr\.NAME\b', 'it changes a brigade that it uses (`changed_used`)', False),
     ('model_laws', 'proofs/StepNames.antt', r'instr\.NAME\b', 'it writes into a brigade that an operand names (`step_gives`)', False),
     ('model_laws', 'proofs/InRange.antt', r'instr\.NAME\b', 'it gives a number the value of an operand', False),
     ('model_laws', 'proofs/parts/Alike.antt', r'instr\.NAME\b', 'it takes memory by what stands at a pool (`room_alike`)', False),
     ('model_laws', 'specs/OpenRuns.antt', r'instr\.NAME\b', 'it passes, returns, or has a pool go (`executed`; or proofs/alone/Spared.antt)', True),
     ('life_check', 'proofs/Instructions.antt', r'step_lands .*instr\.NAME\b', '`law_uniform` of proofs/Uniform.antt does not serve it', False),
-    ('line_help', 'src/faulty.rt', r'Op::NAME\b', 'its two brigades have to be different ones', True),
+    ('explain_text', 'src/faulty.rt', r'Op::NAME\b', 'its two brigades have to be different ones', True),
     ('tests', 'unsound.py', r"'WORD'", 'a wrong rule of it, or a row of `UNIFORM`', True),
 ]
 
@@ -70,7 +70,7 @@ EFFECT = [
     'model_laws: `may_change` and the ten like it in specs/Laws.antt (a row too many is silent); proofs/Unchanged.antt; `leaves` of proofs/Origins.antt',
     'model_laws: `stays_held` of proofs/CursorNames.antt (`effect_cursors`)',
     'life_state: `after` of specs/Rules.antt and `after_effect` of src/rules.rt; `effect_fits`, `effect_parts`, `after_formed`, `after_within`',
-    'ring_run: an arm of `move_buckets`, `execute_on_store`, `execute_without_files` or `execute_instr`; names of it in ring_calls/src/asks.rt',
+    'interp_exec: an arm of `move_buckets`, `execute_on_store`, `execute_without_files` or `execute_instr`; names of it in interp_state/src/asks.rt',
 ]
 
 

@@ -64,6 +64,29 @@ def check_mistakes(program, tell):
             done = subprocess.run([program, 'compile', path], capture_output=True)
             if (done.stdout.decode('latin-1'), done.returncode) != (due, 1):
                 tell('%r: answered %r, due is %r' % (text, done.stdout, due))
+            if done.stderr.decode('latin-1') != '%s: %s' % (path, due):
+                tell('%r: the standard error has %r' % (text, done.stderr))
+    return count
+
+
+def guards(lines):
+    """The places of the lines that a compiler could forget: what comes after the EOS, what is set aside, what a failed pass leaves."""
+    words = [line.strip() for line in lines]
+    for at, line in enumerate(words):
+        if line.startswith(('jsent ', 'aside ')) or (line == 'bclean b0' and words[at - 1] == ':bad'):
+            yield at
+
+
+def check_guards(program, tell):
+    """Takes such lines out of what is compiled, one at a time: each module is refused then; gives how many were tried."""
+    count = 0
+    for path in sorted(glob.glob(os.path.join(FOLDER, 'real', '*.filter'))):
+        lines = subprocess.run([program, 'compile', path], capture_output=True).stdout.split(b'\n')
+        for at in guards([line.decode('latin-1') for line in lines]):
+            count += 1
+            done = subprocess.run([program, 'certify'], input=b'\n'.join(lines[:at] + lines[at + 1:]), capture_output=True)
+            if done.returncode != 1 or not done.stdout.startswith(b'refused at'):
+                tell('%s without line %d, %r: %r' % (os.path.basename(path), at + 1, lines[at], done.stdout[:60]))
     return count
 
 

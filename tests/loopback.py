@@ -166,7 +166,39 @@ class Faults(list):
             self.append('%s: %.200r, due is %.200r' % (what, found, wanted))
 
 
-def tests_of(path):
-    """The bodies of a test, as lists of requests on one connection: pairs of what is sent and what is to come out."""
-    with open(path, encoding='latin-1') as file:
-        return [filters.bodies(line[5:]) for line in file.read().split('\n') if line.startswith('body ')]
+def filters_to_play(quoted):
+    """What a server plays: names of filters and chains, the words of the directive for each, and its bodies, as lists of requests on one connection. A
+    filter stands there as a module, as a text of the language, and as that with the settings of its tests; `quoted` writes a word of the
+    configuration, and gives None where it cannot stand there."""
+    tests = os.path.join(TOP, 'filters', 'tests')
+    for name, path in filters.filters():
+        yield name, [path], filters.tests(os.path.join(tests, name + '.test'))[0]
+    for name, path in filters.sources():
+        told, _, others = filters.tests(os.path.join(tests, name + '.test'))
+        yield name + '_text', [path], told
+        for number, (settings, requests) in enumerate(others):
+            words = [quoted('%s=%s' % (param, value.decode('latin-1'))) for param, value in settings]
+            if None not in words:
+                yield '%s_set_%d' % (name, number), [path] + words, [requests]
+    for name, paths in filters.chains():
+        yield name, paths, filters.tests(os.path.join(tests, 'chains', name + '.test'))[0]
+
+
+# Settings and texts of the language that are refused, with what is told: `{filter}` stands for a file with the text.
+REFUSED_FILTERS = [
+    ('filter f\non byte b { emit b; }\n', '', '{filter}: line 2, column 19: no `;` is needed'),
+    ('filter f\nparam n = 1\non byte b { emit b }\n', 'n=x', '{filter}: cannot set n: a number from 0 to 4294967295 is due'),
+    ('filter f\nparam n = 1\non byte b { emit b }\n', 'f.n=4294967296', '{filter}: cannot set f.n: a number from 0 to 4294967295 is due'),
+    ('filter f\nparam t = ""\non byte b { emit t }\n', 't=' + 'x' * 256, '{filter}: cannot set t: a text has at most 255 bytes'),
+    ('filter f\nparam n = 1\non byte b { emit b }\n', 'm=2', 'cannot set m: no filter here has such a param'),
+    ('filter f\nparam n = 1\non byte b { emit b }\n', 'n=2 g.n=2', 'cannot set g.n: no filter here has such a param'),
+]
+
+
+def refused_filters(folder):
+    """Files of refused filters, with the words behind each, and what is told."""
+    for number, (text, settings, told) in enumerate(REFUSED_FILTERS):
+        path = os.path.join(folder, 'refused%d.filter' % number)
+        with open(path, 'w') as file:
+            file.write(text)
+        yield path + ' ' + settings, told.replace('{filter}', path)

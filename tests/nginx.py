@@ -19,8 +19,8 @@ import threading
 import time
 
 import filters
-from loopback import (LIBRARY, PATIENCE, TOP, Backend, Faults, arrivals, ask, ask_once, certificate, client, curl, free_port, lib, page, tests_of,
-                      versions, wait_for)
+from loopback import (LIBRARY, PATIENCE, TOP, Backend, Faults, arrivals, ask, ask_once, certificate, client, curl, filters_to_play, free_port, lib,
+                      page, refused_filters, versions, wait_for)
 
 SOURCE = '/usr/share/nginx/src'
 SIZES = (1, 3, 16, 511, 4096, 32768)
@@ -127,21 +127,24 @@ class Server:
 
 # ---- the filters, by their tests ----
 
+def quoted(word):
+    """A word of the configuration in quotes."""
+    escapes = {'\n': '\\n', '\r': '\\r', '\t': '\\t', '"': '\\"', '\\': '\\\\'}
+    return '"%s"' % ''.join(escapes.get(letter, letter) for letter in word)
+
+
 def play_filters(build, faults):
     """Each filter and chain with the first body of each of its tests: of files in buffers of some sizes, and of a backend in parts."""
-    played = [(name, [path], name + '.test') for name, path in filters.filters()]
-    played += [(name, paths, 'chains/%s.test' % name) for name, paths in filters.chains()]
     chance, bodies = random.Random('nginx'), []
     cutter = Cutter()
     text = 'checked_filter_budget 100000000;\nsendfile off;\n'
-    for name, paths, test in played:
+    for name, words, told in filters_to_play(quoted):
         text += 'location /%s/ {\n checked_filter %s;\n proxy_pass http://127.0.0.1:%d; proxy_buffering off; proxy_http_version 1.1;\n' % (
-            name, ' '.join(paths), cutter.port)
+            name, ' '.join(words), cutter.port)
         for size in SIZES:
             text += ' location /%s/%d/ { alias %s/site/; output_buffers 2 %d; }\n' % (name, size, build.folder, size)
         text += '}\n'
-        for requests in tests_of(os.path.join(TOP, 'filters', 'tests', test)):
-            bodies.append((name, *requests[0]))
+        bodies += [(name, *requests[0]) for requests in told]
     for number, (_, body, _) in enumerate(bodies):
         build.put('body%d' % number, body)
     with Server(build, text) as server:
@@ -180,7 +183,9 @@ REFUSED = [
     ('checked_filter;', 'invalid number of arguments'),
     ('checked_filter no_such.mod;', 'no_such.mod: No such file or directory'),
     ('checked_filter {top}/filters;', 'no regular file'),
-    ('checked_filter {top}/filters/upper.mod word=x;', 'a module takes no parameters'),
+    ('checked_filter {top}/filters/upper.mod word=x;', 'checked_filter: cannot set word: no filter here has such a param'),
+    ('checked_filter {top}/filters/prefix.filter' + ' text=x' * 65 + ';', 'a chain takes at most 64 settings'),
+    ('checked_filter text=x;', 'a chain has 1 to 16 modules'),
     ('checked_filter {top}/filters/upper.mod; checked_filter {top}/filters/upper.mod;', 'is duplicate'),
     ('checked_filter' + ' {top}/filters/upper.mod' * 17 + ';', 'a chain has 1 to 16 modules'),
     ('checked_filter_budget 0;', 'checked_filter_budget is at least 1'),
@@ -193,6 +198,9 @@ def configurations(build, faults):
     for text, wanted in REFUSED:
         status, told = build.told(text.replace('{top}', TOP))
         faults.due('%r is refused' % text[:60], (status != 0, wanted in told), (True, True))
+    for words, wanted in refused_filters(build.folder):
+        status, told = build.told('checked_filter %s %s;' % (lib('upper'), words))
+        faults.due('%r is refused' % words, (status != 0, 'checked_filter: %s in ' % wanted in told), (True, True))
     folder = os.path.join(TOP, 'tests', 'certificates')
     for name in sorted(os.listdir(folder)):
         if name.endswith('.certify'):
@@ -208,6 +216,8 @@ def configurations(build, faults):
 RESPONSES = '''
         location /up/ {{ alias {site}/; checked_filter {lib}/upper.mod; location /up/off/ {{ alias {site}/; checked_filter off; }} }}
         location /both/ {{ alias {site}/; checked_filter {lib}/upper.mod {lib}/suffix.mod; }}
+        location /mixed/ {{ alias {site}/;
+                            checked_filter {lib}/prefix.filter text=a {lib}/upper.mod "suffix.text= b" {lib}/suffix.filter {lib}/label_text.filter mark=; }}
         location /pass/ {{ alias {site}/; checked_filter {lib}/new.module; }}
         location /gzip/ {{ alias {site}/; checked_filter {lib}/upper.mod; gzip on; gzip_types *; gzip_min_length 0; }}
         location /ssi/ {{ alias {site}/; ssi on; ssi_types *; }}
@@ -254,6 +264,7 @@ def whole_bodies(server, faults):
         faults.due('off, of %d' % length, ask_once(server.port, '/up/off/f%d' % length).body, page(length))
         faults.due('both of %d' % length, ask_once(server.port, '/both/f%d' % length).body, big + suffix)
         faults.due('pass of %d' % length, ask_once(server.port, '/pass/f%d' % length).body, page(length))
+        faults.due('a mixed chain, of %d' % length, ask_once(server.port, '/mixed/f%d' % length).body, b'A' + big + b' b')
         faults.due('at a rate, of %d' % length, ask_once(server.port, '/limited/f%d' % length).body, big)
         zipped = ask_once(server.port, '/gzip/f%d' % length, Accept_Encoding='gzip')
         body = gzip.decompress(zipped.body) if zipped.fields.get('Content-Encoding') == 'gzip' else zipped.body

@@ -357,9 +357,9 @@ def check_streams(server, told):
 
 
 def refused(program, folder, words, told, line, status, cause=None):
-    """A start that is told to be none, and its cause on the standard error."""
+    """A start that is told to be none, and its cause on the standard error, or lines there."""
     done = subprocess.run([program, 'serve'] + words, cwd=folder, capture_output=True, timeout=PATIENCE)
-    due = b'cause: %s\n' % cause.encode() if cause else b''
+    due = cause if isinstance(cause, bytes) else b'cause: %s\n' % cause.encode() if cause else b''
     if done.returncode != status or (status == 1 and (done.stdout, done.stderr) != (line, due)):
         told('serve %s: status %d and %r, due is %r' % (' '.join(words), done.returncode, (done.stdout[:200], done.stderr[:200]), (line, due)))
 
@@ -386,9 +386,12 @@ def refused_starts(program, folder, at):
     half = subprocess.run([program, 'check', 'halfcert', 'halfcert.cert'], cwd=folder, capture_output=True).stdout
     yield at + ['nothing'], b'cannot read nothing\n', ABSENT
     yield at + ['uncertain'], b'cannot read uncertain.cert\n', ABSENT
-    yield at + ['faulty'], b'asm line 2 code 3\n', None
-    yield at + ['halfcert'], half, None
-    yield at + ['m', 'doubtful'], doubt.replace(b'refused at', b'refused module 1 at'), None
+    yield at + ['faulty'], b'asm line 2 code 3\n', b'faulty: asm line 2 code 3\n'
+    yield at + ['halfcert'], half, b'halfcert.cert: ' + half
+    yield at + ['m', 'doubtful'], doubt.replace(b'refused at', b'refused module 1 at'), b'doubtful: ' + doubt
+    write(folder, 'wrong.filter', b'filter f\non byte b { emit b; }\n')
+    what = b'line 2, column 19: no `;` is needed\n'
+    yield at + ['m', 'wrong.filter'], b'refused module 1 at ' + what, b'wrong.filter: %son byte b { emit b; }\n%s^\n' % (what, b' ' * 18)
     yield ['--site', 'none', '--port', '1', 'm'], b'cannot read none\n', ABSENT
     yield ['--site', 'none', '--port', '1', 'm', 'nothing'], b'cannot read nothing\n', ABSENT
     for number, (text, line, cause) in enumerate(SITES):
@@ -412,6 +415,12 @@ def check_starts(program, folder, told):
         count += 1
     with Server(program, folder, ['--forever']) as server:
         refused(program, folder, ['--site', 'site', '--port', str(server.port), 'm'], told, b'cannot listen\n', 1, 'Address already in use (os error 98)')
+    write(folder, 'plain.filter', b'filter f\non byte b { emit b }\n')
+    for budget, due in (('262144', b''), ('262143', b'warning: a byte takes up to 4 instructions, so 65536 bytes up to 262144, and a call may take 262143: '
+                                                    b'a long page may be answered 500; give --budget 327680\n')):
+        with Server(program, folder, ['--conns', '0', '--budget', budget], modules=('plain.filter',)) as server:
+            expect(told, 'a budget of %s' % budget, server.process.stderr.read(), due)
+        count += 1
     for words in (['--site', 'site', 'm'], ['--port', '1', 'm'], at, ['--site', 'site', '--port', '0', 'm'], ['--site', 'site', '--port', '65536', 'm'],
                   at + ['--timeout', '0', 'm'], at + ['--at-once', '0', 'm'], at + ['--at-once', '65536', 'm'], at + ['--conns', '4294967296', 'm'],
                   at + ['--budget', '-1', 'm'], at + ['--conns', 'x', 'm'], at + ['--conns', '2', '--forever', 'm'],

@@ -259,7 +259,7 @@ class Copy:
         for crate in ('life_state', 'life_check'):
             shutil.copytree(os.path.join(TOP, 'crates', crate), os.path.join(self.crates, crate), ignore=shutil.ignore_patterns('out', 'must-fail'))
         write(os.path.join(room, 'crates.txt'), 'module_code:\nrun_model: module_code thiserror\nmodel_laws: module_code run_model\n'
-              'life_check: module_code run_model model_laws\n')
+              'life_check: module_code run_model model_laws thiserror\n')
         shutil.copy(os.path.join(TOP, 'HANDLES'), room)
         self.check = os.path.join(self.crates, 'life_check')
         self.laws = laws(os.path.join(self.check, 'proofs'))

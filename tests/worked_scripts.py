@@ -1,5 +1,5 @@
 #!/usr/bin/env python3
-"""Checks that stdin and stdout of the program worked_rows have these cases of tests/cases.
+"""Checks that stdin and stdout of the program acceptance have these cases of tests/cases.
 
     python3 tests/worked_scripts.py
 
@@ -43,10 +43,10 @@ def main():
     scripts = ''.join('first 1\n' + text for text in of_cases('.script'))
     answers = ''.join(of_cases('.stdout'))
     told = []
-    stdin = read('crates', 'worked_rows', 'stdin')
+    stdin = read('crates', 'acceptance', 'stdin')
     if not stdin.startswith(scripts) or not stdin[len(scripts):].startswith('first '):
         told.append('stdin does not begin with the cases')
-    if answers not in read('crates', 'worked_rows', 'stdout'):
+    if answers not in read('crates', 'acceptance', 'stdout'):
         told.append('stdout does not have the answers of the cases')
     print('\n'.join(told) or '%d cases, no faults' % len(CASES))
     return int(bool(told))

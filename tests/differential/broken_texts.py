@@ -24,7 +24,7 @@ OTHERS = ['emit', 'keep', 'on', 'if', 'else', 'it', 'in', 'copy', 'of', 'at', 'l
 PLACE = re.compile(r'line ([0-9]+), column ([0-9]+): (.*?)(?: \(in the `def` that runs from line ([0-9]+)\))?\n')
 AS_A_WHOLE = (
     'this `{` is not closed',                                # told where it opens
-    '`[a-z0-9]+` takes [0-9]+ numbers',                      # told where it is run
+    '`[a-z0-9]+` takes [0-9]+ number',                       # told where it is run
     'this pattern ',                                         # of two patterns
     '`on byte` and `on bucket` do not go together',
     '`it` is given away on one way through this loop',       # told where the loop begins
@@ -43,10 +43,10 @@ def broken(text, chance):
     return text[:token.start()] + new + text[token.end():], place, '%s at line %d, column %d' % (how, *place)
 
 
-def fault_of(answer, errors, place):
-    """What is wrong with what is told of a text that was broken at a place, if something is."""
+def fault_of(answer, is_other, place):
+    """What is wrong with what is told of a text that was broken at a place, if something is; standard error may have something other than it."""
     found = PLACE.fullmatch(answer)
-    if not found or not MISTAKE.fullmatch(answer) or errors:
+    if not found or not MISTAKE.fullmatch(answer) or is_other:
         return 'not one mistake'
     line, column, what, run = found.groups()
     told = (int(run), 0) if run else (int(line), int(column))
@@ -77,7 +77,8 @@ def run(compiler, options):
             counts['taken'] += 1
             continue
         counts['mistakes'] += 1
-        fault = fault_of(answer, done.stderr, place)
+        named = ('%s: %s' % (compiler.path, answer)).encode('latin-1')
+        fault = fault_of(answer, done.stderr != named, place)
         if fault:
             counts['wrong'] += 1
             path = os.path.join(options.keep, 'broken_%s_%d.filter' % (options.seed, number - 1))

@@ -7,7 +7,7 @@
 
 Bodies come in random cuts, and connections are closed at any moment. In every other chain things fail too: openings and reads of
 files, and growths of memory. No script can say that, so these chains are played by the reading; and then, with names that run out, a
-device that fails where it is told, closes after each step of a call and growths that are refused, by the driver, `worked_rows`.
+device that fails where it is told, closes after each step of a call and growths that are refused, by the driver, `acceptance`.
 """
 import argparse
 import os
@@ -373,7 +373,7 @@ def main():
     parser.add_argument('--keep', default=tempfile.gettempdir(), help='the folder for a script on which something is amiss')
     parser.add_argument('--unchecked', action='store_true', help='chains of any filters, which may have faults')
     parser.add_argument('--troubled', action='store_true', help='things fail in each chain, and not in every other one')
-    parser.add_argument('--driver', help='the program `worked_rows`, which plays the chains in which things fail; this needs a compiler cc')
+    parser.add_argument('--driver', help='the program `acceptance`, which plays the chains in which things fail; this needs a compiler cc')
     parser.add_argument('--growths', action='store_true', help='refuse growths of memory to the driver')
     parser.add_argument('--write', metavar='FOLDER', help='write the scripts for the driver, with their answers, and play nothing')
     options = parser.parse_args()

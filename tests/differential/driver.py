@@ -1,4 +1,4 @@
-"""The driver, `worked_rows`, as it is played on many scripts. It is loaded once; a library before the C library's calls, the one of
+"""The driver, `acceptance`, as it is played on many scripts. It is loaded once; a library before the C library's calls, the one of
 tests/refusals.py with a function more, has each script played by a child, in which it may refuse a growth of memory.
 """
 import os

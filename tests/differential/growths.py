@@ -1,4 +1,4 @@
-"""Growths of memory that are refused to the driver, `worked_rows`, one at a time, and what is right then.
+"""Growths of memory that are refused to the driver, `acceptance`, one at a time, and what is right then.
 
 The answers are those of the plain run up to the command that met the refused growth. That one answers `refused NoMemory`, and nothing else
 changes: the later answers are those of the script without it, and asked again it succeeds, with all answers as in the plain run. Or it answers

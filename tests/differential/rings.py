@@ -1,8 +1,8 @@
 #!/usr/bin/env python3
-"""Prints the line that `worked_rows` must print of its ten thousand commands on rings: the rule of
-crates/worked_rows/src/commands.rt, played on lists.
+"""Prints the line that `acceptance` must print of its ten thousand commands on rings: the rule of
+crates/acceptance/src/commands.rt, played on lists.
 
-    python3 tests/differential/rings.py            # ends with status 0 where crates/worked_rows/stdout has that line
+    python3 tests/differential/rings.py            # ends with status 0 where crates/acceptance/stdout has that line
 """
 import os
 
@@ -90,7 +90,7 @@ def line():
 
 def main():
     print(line())
-    with open(os.path.join(TOP, 'crates', 'worked_rows', 'stdout')) as file:
+    with open(os.path.join(TOP, 'crates', 'acceptance', 'stdout')) as file:
         return int(line() not in file.read().splitlines())
 
 

@@ -1,4 +1,4 @@
-"""Scripts for the driver of troubled chains, `worked_rows`: names that run out, devices that fail at a call that is told, growths that are
+"""Scripts for the driver of troubled chains, `acceptance`: names that run out, devices that fail at a call that is told, growths that are
 refused, and closes at each step of a call. The reading answers all but the growths; what is right after one of these is said in growths.py.
 """
 import copy

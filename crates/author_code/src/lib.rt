@@ -24,7 +24,11 @@ mod survey;
 mod tables;
 mod written;
 
+pub use author_text::place::Place;
+pub use author_text::tree::Filter;
 pub use cost::{PerByte, per_byte};
 pub use error::{CodeError, CompileFault, Need};
+pub use life_state::State;
 pub use messages::fault_text;
+pub use module_code::Module;
 pub use written::{Written, write_module};

@@ -14,7 +14,10 @@ fn words(fault: CompileFault) -> (&'static str, &'static str) {
             "",
         ),
         CompileFault::NeverReached => ("this is never reached", ""),
-        CompileFault::TooManyNumbers(_) => ("too many numbers at once: ", " would be the ninth"),
+        CompileFault::TooManyNumbers(_) => (
+            "too many numbers at once: ",
+            " would be the ninth; a module has 8, and variables take ",
+        ),
         CompileFault::TooManyBrigades(_) => (
             "too many holds and tables: ",
             " brigades are needed, and a module has 8",
@@ -60,6 +63,22 @@ fn needed(filter: &Filter, need: Need) -> (&'static str, Option<&[u8]>) {
     }
 }
 
+/// How many numbers the variables of a filter take.
+fn variables(filter: &Filter) -> usize {
+    let mut count: usize = 0;
+    for number in filter.numbers.iter().take(filter.lasting) {
+        if number.name.as_slice().first() != Some(&b'(') {
+            count = count.saturating_add(1);
+        }
+    }
+    count
+}
+
+fn push_count(text: &mut Vec<u8>, count: usize) -> Result<(), AllocError> {
+    let mut digits = Buffer::new();
+    text.extend_from_slice(digits.format(count).as_bytes())
+}
+
 fn push_need(text: &mut Vec<u8>, filter: &Filter, need: Need) -> Result<(), AllocError> {
     let (before, name) = needed(filter, need);
     text.extend_from_slice(before.as_bytes())?;
@@ -84,12 +103,12 @@ pub fn fault_text(
         CompileFault::TooManyBrigades(count)
         | CompileFault::TooManyTables(count)
         | CompileFault::TooLong(count)
-        | CompileFault::TooManyTexts(count) => {
-            let mut digits = Buffer::new();
-            text.extend_from_slice(digits.format(count).as_bytes())?;
-        }
+        | CompileFault::TooManyTexts(count) => push_count(&mut text, count)?,
         _ => {}
     }
     text.extend_from_slice(behind.as_bytes())?;
+    if let CompileFault::TooManyNumbers(_) = fault {
+        push_count(&mut text, variables(filter))?;
+    }
     Ok(text)
 }

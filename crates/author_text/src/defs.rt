@@ -3,80 +3,37 @@
 use crate::numbers::place_of;
 use crate::scope::{Meaning, Resolver, Spot};
 use crate::source;
-use crate::source::{Decl, Def, Name, Source};
+use crate::source::{Decl, Def, Name};
 use crate::tree::{Expr, Number, NumberKind, Stmt};
+use std::collections::BTreeSet;
 
 /// How deep blocks and `def`s are looked through for what they set.
 const MAX_DEPTH: usize = 1024;
 
 /// The names that a block sets, and the `def`s that were looked through for them.
 #[derive(Drop)]
-struct Changes<'a, 's> {
-    source: &'s Source<'a>,
+struct Changes<'a> {
     names: Vec<&'a [u8]>,
-    seen: Vec<usize>,
+    seen: BTreeSet<usize>,
     is_whole: bool,
 }
 
-/// The place of the `def` of this name.
-fn def_named(source: &Source<'_>, name: &[u8]) -> Option<usize> {
-    for (at, decl) in source.decls.iter().enumerate() {
-        if let Decl::Def(def) = decl {
-            if def.name.text == name {
-                return Some(at);
-            }
-        }
-    }
-    None
-}
-
-impl<'a, 's> Changes<'a, 's> {
-    /// AddsText the names that a block sets, and the `def`s that it runs add theirs, each once.
-    #[cycle(sets)]
-    fn add_set(&mut self, body: &[source::Stmt<'a>], depth: usize) {
-        if depth == 0 {
-            return;
-        }
-        let below = depth - 1;
-        for stmt in body {
-            match stmt {
-                source::Stmt::Set { name, .. } => {
-                    if self.names.push(name.text).is_err() {
-                        self.is_whole = false;
-                    }
-                }
-                source::Stmt::Run { name, .. } => self.add_run(name.text, below),
-                source::Stmt::If { then, other, .. } => {
-                    self.add_set(then, below);
-                    self.add_set(other, below);
-                }
-                source::Stmt::While { body, .. } | source::Stmt::For { body, .. } => {
-                    self.add_set(body, below);
-                }
-                _ => {}
-            }
-        }
-    }
-
-    /// AddsText what the `def` of this name sets, unless it was seen.
-    #[cycle(sets)]
-    fn add_run(&mut self, name: &[u8], depth: usize) {
-        if depth == 0 {
-            return;
-        }
-        let source = self.source;
-        let Some(at) = def_named(source, name) else {
-            return;
-        };
-        if self.seen.contains(&at) {
-            return;
-        }
-        if self.seen.push(at).is_err() {
+impl<'a> Changes<'a> {
+    fn add_name(&mut self, name: &'a [u8]) {
+        if self.names.push(name).is_err() {
             self.is_whole = false;
         }
-        if let Some(Decl::Def(def)) = source.decls.get(at) {
-            self.add_set(&def.body, depth - 1);
+    }
+
+    /// Notes that a `def` is looked through; whether it was not before.
+    fn is_new(&mut self, at: usize) -> bool {
+        if self.seen.contains(&at) {
+            return false;
         }
+        if self.seen.insert(at).is_err() {
+            self.is_whole = false;
+        }
+        true
     }
 
     fn contains(&self, name: &[u8]) -> bool {
@@ -90,6 +47,45 @@ impl<'a, 's> Changes<'a, 's> {
 }
 
 impl<'a, 's> Resolver<'a, 's> {
+    /// AddsText the names that a block sets, and the `def`s that it runs add theirs, each once.
+    #[cycle(sets)]
+    fn add_set(&self, changes: &mut Changes<'a>, body: &[source::Stmt<'a>], depth: usize) {
+        if depth == 0 {
+            return;
+        }
+        let below = depth - 1;
+        for stmt in body {
+            match stmt {
+                source::Stmt::Set { name, .. } => changes.add_name(name.text),
+                source::Stmt::Run { name, .. } => self.add_run(changes, *name, below),
+                source::Stmt::If { then, other, .. } => {
+                    self.add_set(changes, then, below);
+                    self.add_set(changes, other, below);
+                }
+                source::Stmt::While { body, .. } | source::Stmt::For { body, .. } => {
+                    self.add_set(changes, body, below);
+                }
+                _ => {}
+            }
+        }
+    }
+
+    /// AddsText what the `def` of this name sets, unless it was seen.
+    #[cycle(sets)]
+    fn add_run(&self, changes: &mut Changes<'a>, name: Name<'a>, depth: usize) {
+        if depth == 0 {
+            return;
+        }
+        let source = self.source;
+        if let Some(Meaning::Def(at)) = self.declared_as(name) {
+            if changes.is_new(at) {
+                if let Some(Decl::Def(def)) = source.decls.get(at) {
+                    self.add_set(changes, &def.body, depth - 1);
+                }
+            }
+        }
+    }
+
     /// A `def` in place of the statement that runs it.
     #[cycle(resolve)]
     pub fn run(&mut self, name: Name<'a>, args: &[source::Expr<'a>], depth: usize) -> Stmt {
@@ -137,7 +133,12 @@ impl<'a, 's> Resolver<'a, 's> {
 
     fn check_args(&mut self, name: Name<'a>, count: usize, due: usize) {
         if count != due {
-            match format!(in self.alloc; "` takes {due} numbers, not {count}") {
+            let said = if due == 1 {
+                format!(in self.alloc; "` takes 1 number, not {count}")
+            } else {
+                format!(in self.alloc; "` takes {due} numbers, not {count}")
+            };
+            match said {
                 Ok(what) => self.says_of(name, what.as_str()),
                 Err(_) => self.faults.no_memory(),
             }
@@ -189,15 +190,14 @@ impl<'a, 's> Resolver<'a, 's> {
     }
 
     /// What the body of a `def` sets, where it has a parameter.
-    fn changes(&mut self, def: &Def<'a>) -> Changes<'a, 's> {
+    fn changes(&mut self, def: &Def<'a>) -> Changes<'a> {
         let mut changes = Changes {
-            source: self.source,
             names: Vec::new(self.alloc),
-            seen: Vec::new(self.alloc),
+            seen: BTreeSet::new(self.alloc),
             is_whole: true,
         };
         if !def.params.is_empty() {
-            changes.add_set(&def.body, MAX_DEPTH);
+            self.add_set(&mut changes, &def.body, MAX_DEPTH);
         }
         if !changes.is_whole {
             self.faults.no_memory();
@@ -206,12 +206,7 @@ impl<'a, 's> Resolver<'a, 's> {
     }
 
     /// What a parameter stands for, unless it needs a number of its own.
-    fn stands_for(
-        &self,
-        name: Name<'a>,
-        value: &Expr,
-        changes: &Changes<'a, 's>,
-    ) -> Option<Meaning> {
+    fn stands_for(&self, name: Name<'a>, value: &Expr, changes: &Changes<'a>) -> Option<Meaning> {
         if changes.contains(name.text) {
             return None;
         }

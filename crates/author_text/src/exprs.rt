@@ -127,6 +127,9 @@ impl<'a, 't> Parser<'a, 't> {
                 self.no_number("a number is due here, not a text; a byte is written 'a'")
             }
             Kind::Mark if self.at("-") => self.no_number("there are no numbers below 0"),
+            Kind::Mark if self.at("+") => {
+                self.no_number("a number is due here, not `+`; `n++` is the statement `n += 1`")
+            }
             Kind::Mark if self.eat("(") => self.inner(")", depth - 1),
             Kind::Mark | Kind::End => {
                 self.due("a number");

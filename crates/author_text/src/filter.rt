@@ -6,12 +6,13 @@ use crate::matches::{Matches, Own, byte_name};
 use crate::patterns::{MAX_BYTES, Patterns};
 use crate::place::Place;
 use crate::refusal::Refusal;
-use crate::scope::{Binding, Meaning, Resolver, Spot, meaning_in};
+use crate::scope::{Meaning, Resolver, Spot};
 use crate::source;
 use crate::source::{Decl, Name, Setting, Source, Trigger};
 use crate::stmts::MAX_DEPTH;
 use crate::tree::{Event, Filter, Handler, Hold, NumberKind, Stmt, Table};
 use std::alloc::Global;
+use std::collections::BTreeMap;
 
 /// The name of a declaration.
 fn name_of<'a>(decl: &Decl<'a>) -> Name<'a> {
@@ -89,7 +90,7 @@ pub fn resolve(alloc: Global, source: &Source<'_>) -> Result<Filter, Refusal> {
         alloc,
         source,
         filter: empty_filter(alloc, name),
-        globals: Vec::new(alloc),
+        globals: BTreeMap::new(alloc),
         locals: Vec::new(alloc),
         spot: Spot {
             event: Event::Start,
@@ -114,15 +115,13 @@ impl<'a, 's> Resolver<'a, 's> {
         let source = self.source;
         for (at, decl) in source.decls.iter().enumerate() {
             let name = name_of(decl);
-            if meaning_in(&self.globals, 0, name.text).is_some() {
+            if self.declared_as(name).is_some() {
                 self.says_of(name, "` is declared twice");
             }
             let means = self.declared(decl, at);
-            let binding = Binding {
-                name: name.text,
-                means,
-            };
-            self.faults.append(&mut self.globals, binding);
+            if self.globals.insert(name.text, means).is_err() {
+                self.faults.no_memory();
+            }
         }
     }
 

@@ -42,6 +42,7 @@ impl<'a, 't> Parser<'a, 't> {
         } else {
             self.name("the name of the filter").text
         };
+        self.check_hyphen();
         let mut decls = Vec::new(self.alloc);
         for _ in 0..self.left() {
             if self.at("on") || self.is_end() {
@@ -127,13 +128,13 @@ impl<'a, 't> Parser<'a, 't> {
 
     /// A name, and `=`.
     pub fn name_is(&mut self) -> Name<'a> {
-        let name = self.name("a name");
+        let name = self.new_name("a name");
         self.need("=");
         name
     }
 
     fn hold(&mut self, is_conn: bool) -> Decl<'a> {
-        let name = self.name("a name");
+        let name = self.new_name("a name");
         let limit = if self.eat("at") {
             self.need_most();
             Some(self.expr())
@@ -187,7 +188,7 @@ impl<'a, 't> Parser<'a, 't> {
     }
 
     fn def(&mut self) -> Def<'a> {
-        let name = self.name("a name");
+        let name = self.new_name("a name");
         self.need("(");
         let mut params = Vec::new(self.alloc);
         for _ in 0..self.left() {

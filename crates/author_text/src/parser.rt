@@ -100,8 +100,16 @@ impl<'a, 't> Parser<'a, 't> {
         self.faults.says_of(place, before, shown, after);
     }
 
+    /// Refuses a comma, as one writes it in long numbers.
+    fn check_comma(&mut self) {
+        if self.at(",") {
+            self.says("no `,` may stand here: a number has digits alone, as 2000");
+        }
+    }
+
     /// Something is due in place of the next token.
     pub fn due(&mut self, due: &str) {
+        self.check_comma();
         self.says_of(&[due, " is due here, not `"], "`");
     }
 
@@ -116,6 +124,7 @@ impl<'a, 't> Parser<'a, 't> {
             if text == "{" && self.at("=") {
                 self.says("numbers are compared with `==`");
             }
+            self.check_comma();
             self.says_of(&["`", text, "` is due here, not `"], "`");
         }
     }
@@ -133,6 +142,20 @@ impl<'a, 't> Parser<'a, 't> {
         Name {
             text: token.text,
             place: token.place,
+        }
+    }
+
+    /// The name that must be next, and that is declared here.
+    pub fn new_name(&mut self, due: &str) -> Name<'a> {
+        let name = self.name(due);
+        self.check_hyphen();
+        name
+    }
+
+    /// Refuses a hyphen behind a name that is declared.
+    pub fn check_hyphen(&mut self) {
+        if self.at("-") {
+            self.says("a name has letters, digits and `_`, and no `-`");
         }
     }
 

@@ -275,10 +275,7 @@ impl<'a, 's> Resolver<'a, 's> {
             source::Stmt::Drop {
                 of: Some(hold),
                 place,
-            } => Stmt::DropHold {
-                hold: self.changed_hold(*hold),
-                place: *place,
-            },
+            } => self.drop_hold(*hold, *place),
             source::Stmt::Cut { at, place } => self.cut(at, *place),
             source::Stmt::Plain { word, place } => self.word(*word, *place),
             source::Stmt::Log {
@@ -288,6 +285,18 @@ impl<'a, 's> Resolver<'a, 's> {
             } => self.log(*is_conn, text, *place),
             other => self.no_stmt(begin_of(other), "a statement is due here"),
         }
+    }
+
+    /// What a hold has is gone.
+    fn drop_hold(&mut self, name: Name<'a>, place: Place) -> Stmt {
+        if let Some(Meaning::Number(_)) = self.find(name) {
+            self.says_of(
+                name,
+                "` is a number: what is not emitted is gone anyway; write `next` to be done with a byte",
+            );
+        }
+        let hold = self.changed_hold(name);
+        Stmt::DropHold { hold, place }
     }
 
     /// The number that a name sets.

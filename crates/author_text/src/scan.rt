@@ -256,6 +256,10 @@ impl<'a> Scanner<'a> {
                 b'&' => self.says("write `and`"),
                 b'|' => self.says("write `or`"),
                 b'!' => self.says("write `not`"),
+                b'_' => self.says(
+                    "a number has digits alone, as 2000, and a name begins with a letter",
+                ),
+                b'.' => self.says("a number has digits alone, and a name letters, digits and `_`"),
                 _ => self.strange_byte("no token begins with `"),
             }
         }

@@ -5,6 +5,7 @@ use crate::place::Place;
 use crate::source::{Name, Source};
 use crate::tree::{Event, Filter, Number, NumberKind};
 use std::alloc::Global;
+use std::collections::BTreeMap;
 
 /// What a name stands for: an index of the filter, of its texts or of the declarations.
 #[derive(Clone, Copy)]
@@ -47,7 +48,8 @@ pub struct Resolver<'a, 's> {
     pub alloc: Global,
     pub source: &'s Source<'a>,
     pub filter: Filter,
-    pub globals: Vec<Binding<'a>>,
+    /// What each name stands for that was declared so far.
+    pub globals: BTreeMap<&'a [u8], Meaning>,
     pub locals: Vec<Binding<'a>>,
     pub spot: Spot,
     /// The holds over whose bytes loops go that it stands in.
@@ -76,13 +78,18 @@ impl<'a, 's> Resolver<'a, 's> {
         self.faults.says_of(name.place, &["`"], name.text, what);
     }
 
+    /// What a name was declared as, if it was.
+    pub fn declared_as(&self, name: Name<'a>) -> Option<Meaning> {
+        self.globals.get(&name.text).copied()
+    }
+
     /// What a name stands for.
     pub fn find(&mut self, name: Name<'a>) -> Option<Meaning> {
         let local = meaning_in(&self.locals, self.spot.floor, name.text);
         if local.is_some() {
             return local;
         }
-        let global = meaning_in(&self.globals, 0, name.text);
+        let global = self.declared_as(name);
         if global.is_none() {
             self.says_of(name, "` is not declared");
         }
@@ -111,7 +118,7 @@ impl<'a, 's> Resolver<'a, 's> {
 
     /// Lets a name of the innermost block stand for this, which is declared for what is a number, or not at all.
     pub fn bind(&mut self, name: Name<'a>, means: Meaning) {
-        match meaning_in(&self.globals, 0, name.text) {
+        match self.declared_as(name) {
             None | Some(Meaning::Number(_) | Meaning::Constant(_)) => {}
             Some(_) => self.says_of(name, "` is declared twice"),
         }

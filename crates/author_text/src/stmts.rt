@@ -189,6 +189,9 @@ impl<'a, 't> Parser<'a, 't> {
         let name = self.name("a name");
         if self.eat("(") {
             let args = self.args();
+            if self.at("{") {
+                self.check_else_if(name);
+            }
             return Stmt::Run { name, args };
         }
         let op = if self.eat("=") {
@@ -199,12 +202,35 @@ impl<'a, 't> Parser<'a, 't> {
             SetOp::Sub
         } else {
             let place = self.token().place;
+            self.check_else_if(name);
+            self.check_step(name, place);
             let before = "`=`, `+=`, `-=` or `(` is due after `";
             self.faults.says_of(place, &[before], name.text, "`");
             return none(place);
         };
         let value = self.expr();
         Stmt::Set { name, op, value }
+    }
+
+    /// Refuses a name that is written for `else if` elsewhere.
+    fn check_else_if(&mut self, name: Name<'a>) {
+        for word in ["elif", "elsif", "elseif"] {
+            if name.text == word.as_bytes() {
+                self.faults.says(name.place, "write `else if`");
+            }
+        }
+    }
+
+    /// Refuses `++` and `--` at this place behind a name.
+    fn check_step(&mut self, name: Name<'a>, place: Place) {
+        if self.eat("+") && self.at("+") {
+            self.faults
+                .says_of(place, &["write `"], name.text, " += 1`");
+        }
+        if self.eat("-") && self.at("-") {
+            self.faults
+                .says_of(place, &["write `"], name.text, " -= 1`");
+        }
     }
 
     fn args(&mut self) -> Vec<Expr<'a>> {
@@ -254,6 +280,10 @@ impl<'a, 't> Parser<'a, 't> {
     fn log(&mut self, word: Token<'a>) -> Stmt<'a> {
         let place = word.place;
         if !is(word, "log") {
+            if is(word, "return") {
+                self.faults
+                    .says(place, "`return` begins no statement: write `next`");
+            }
             let before = "a statement is due here; `";
             self.faults
                 .says_of(place, &[before], word.text, "` begins none");

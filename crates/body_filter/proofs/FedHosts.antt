@@ -9,8 +9,8 @@ use Rattle.filter_chain.specs.Led.{IsAlive, Refines}
 use Rattle.filter_chain.specs.Safe.{IsSafe}
 use Rattle.filter_chain.proofs.Driving.{alive_then, leads_as, leads_on}
 use Rattle.http_message.specs.declared.failure.Failure.{Failure}
-use Rattle.module_tools.specs.declared.fault.PlayFault.{PlayFault}
-use Rattle.module_tools.specs.declared.fault.PlayFault.TheVariants as fault
+use Rattle.module_commands.specs.declared.fault.PlayFault.{PlayFault}
+use Rattle.module_commands.specs.declared.fault.PlayFault.TheVariants as fault
 use Rattle.body_filter.specs.Bodies.{IsReadAtOnce, brings_bytes, brings_eos}
 use Rattle.body_filter.specs.Feeding.{FedSoFar, FeedsBody, PutsCall, TriesCall}
 use Rattle.body_filter.proofs.SafeCalls.{safe_by}

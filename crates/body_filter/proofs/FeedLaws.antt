@@ -11,9 +11,9 @@ use Rattle.run_model.specs.declared.event.Event.{Event}
 use Rattle.run_model.specs.declared.event.Event.TheVariants as event
 use Rattle.filter_chain.specs.HostViews.{HostView}
 use Rattle.http_message.specs.declared.failure.Failure.{Failure}
-use Rattle.module_tools.specs.Streams.{WritesText}
-use Rattle.module_tools.specs.declared.fault.PlayFault.{PlayFault}
-use Rattle.module_tools.specs.declared.fault.PlayFault.TheVariants as fault
+use Rattle.module_commands.specs.Streams.{WritesText}
+use Rattle.module_commands.specs.declared.fault.PlayFault.{PlayFault}
+use Rattle.module_commands.specs.declared.fault.PlayFault.TheVariants as fault
 use Rattle.body_filter.specs.Bodies.{IsReadAtOnce, body_events, brings_bytes, brings_eos, first_events}
 use Rattle.body_filter.specs.BodyCalls.{MakesCalls}
 use Rattle.body_filter.specs.Feeding.{FedSoFar, FeedsBody, PutsCall, TriesCall}

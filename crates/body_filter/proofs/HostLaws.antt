@@ -15,9 +15,9 @@ use Rattle.filter_chain.specs.Led.{IsAlive, Refines}
 use Rattle.filter_chain.proofs.Driving.{HappenedInAny, alive_then, by_event, leads_as, leads_on, leads_still}
 use Rattle.http_message.specs.declared.failure.Failure.{Failure}
 use Rattle.http_message.specs.declared.failure.Failure.TheVariants as failure
-use Rattle.module_tools.specs.Streams.{WritesText}
-use Rattle.module_tools.specs.declared.fault.PlayFault.{PlayFault}
-use Rattle.module_tools.specs.declared.fault.PlayFault.TheVariants as fault
+use Rattle.module_commands.specs.Streams.{WritesText}
+use Rattle.module_commands.specs.declared.fault.PlayFault.{PlayFault}
+use Rattle.module_commands.specs.declared.fault.PlayFault.TheVariants as fault
 use Rattle.body_filter.specs.BodyCalls.{RunsOut, RunsOutUnless}
 use Rattle.body_filter.specs.Feeding.{PutsCall, PutsEnd, PutsOut, TriesCall}
 use Rattle.body_filter.specs.Prelude.{refusal_of}

@@ -17,9 +17,9 @@ use Rattle.filter_chain.specs.Safe.{IsSafe, IsUnfaulted}
 use Rattle.filter_chain.proofs.Driving.{HappenedInAny, alive_then, by_event, leads_on}
 use Rattle.http_message.specs.declared.failure.Failure.{Failure}
 use Rattle.http_message.specs.declared.failure.Failure.TheVariants as failure
-use Rattle.module_tools.specs.Streams.{Writes}
-use Rattle.module_tools.specs.declared.fault.PlayFault.{PlayFault}
-use Rattle.module_tools.specs.declared.fault.PlayFault.TheVariants as fault
+use Rattle.module_commands.specs.Streams.{Writes}
+use Rattle.module_commands.specs.declared.fault.PlayFault.{PlayFault}
+use Rattle.module_commands.specs.declared.fault.PlayFault.TheVariants as fault
 use Rattle.body_filter.specs.BodyCalls.{OpensForBody, RunsOut, faulted}
 use Rattle.body_filter.proofs.SafeCalls.{safe_by}
 use Rattle.body_filter.specs.Feeding.{FeedsBody}

@@ -7,9 +7,9 @@ use Rattle.run_model.specs.declared.event.Event.{Event}
 use Rattle.run_model.specs.declared.event.Refusal.{Refusal}
 use Rattle.filter_chain.specs.HostViews.{HostView}
 use Rattle.http_message.specs.declared.failure.Failure.{Failure}
-use Rattle.module_tools.specs.Streams.{Writes, WritesText}
-use Rattle.module_tools.specs.declared.fault.PlayFault.{PlayFault}
-use Rattle.module_tools.specs.declared.fault.PlayFault.TheVariants as fault
+use Rattle.module_commands.specs.Streams.{Writes, WritesText}
+use Rattle.module_commands.specs.declared.fault.PlayFault.{PlayFault}
+use Rattle.module_commands.specs.declared.fault.PlayFault.TheVariants as fault
 use Rattle.body_filter.specs.Bodies.{IsReadAtOnce, first_events}
 use Rattle.body_filter.specs.BodyCalls.{RunsAndTakes, MakesCall, MakesCalls, TakesOut}
 use Rattle.body_filter.specs.Filtered.{Filters, FiltersUpTo}

@@ -11,8 +11,8 @@ use Rattle.bucket_kinds.specs.MemDevice.{device_of}
 use Rattle.filter_chain.specs.HostViews.{HostView, Answers, host_view}
 use Rattle.http_message.specs.declared.failure.Failure.{Failure}
 use Rattle.http_message.specs.declared.failure.Failure.TheVariants as failure
-use Rattle.module_tools.specs.declared.fault.PlayFault.{PlayFault}
-use Rattle.module_tools.specs.declared.fault.PlayFault.TheVariants as fault
+use Rattle.module_commands.specs.declared.fault.PlayFault.{PlayFault}
+use Rattle.module_commands.specs.declared.fault.PlayFault.TheVariants as fault
 use Rattle.body_filter.specs.Bodies.{IsReadAtOnce, IsReadIn, body_events, first_events}
 use Rattle.body_filter.specs.BodyCalls.{MakesCalls, OpensForBody}
 use Rattle.body_filter.specs.declared.ending.BodyEnd.{BodyEnd}

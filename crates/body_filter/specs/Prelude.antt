@@ -9,8 +9,8 @@ pub use Rattle.filter_chain.specs.Hosting.{IsHosting, done_answer, files_of, out
 pub use Rattle.filter_chain.specs.HostViews.{HostView}
 pub use Rattle.filter_chain.specs.Led.{IsAlive, Refines}
 pub use Rattle.filter_chain.specs.Safe.{IsSafe, IsUnfaulted}
-pub use Rattle.module_tools.specs.StreamFaults.{TellsOfReader, TellsOfWriter}
-pub use Rattle.module_tools.specs.Streams.{Writes, WritesText}
+pub use Rattle.module_commands.specs.StreamFaults.{TellsOfReader, TellsOfWriter}
+pub use Rattle.module_commands.specs.Streams.{Writes, WritesText}
 pub use Rattle.body_filter.specs.Bodies.{brings_bytes}
 pub use Rattle.body_filter.specs.BodyCalls.{RunsOut, RunsOutUnless, failure_of, faulted}
 pub use Rattle.body_filter.specs.Feeding.{FeedsBody, PutsCall, PutsEnd, PutsOut, TriesCall}

@@ -9,7 +9,7 @@ use byte_streams::Sink;
 use filter_chain::{Cause, Files, Host, Refusal, Rings, Stepped, Stored};
 use http_message::Failure;
 use module_code::Status;
-use module_tools::{PlayFault, write_text};
+use module_commands::{PlayFault, write_text};
 
 /// Why a call did not succeed, by the answer of its last step.
 fn failure_of(answer: Result<Stepped, Refusal>) -> Option<Failure>

@@ -8,7 +8,7 @@ use crate::calls::end_call;
 use byte_streams::{CountedSource, ReadAnswer, Sink, Source};
 use filter_chain::{Files, Host, Piece, Rings, Seq, Stored};
 use http_message::Failure;
-use module_tools::PlayFault;
+use module_commands::PlayFault;
 use std::alloc::{AllocError, Global};
 
 /// How many bytes are read at once at most: as many as a read of a FILE bucket gives.

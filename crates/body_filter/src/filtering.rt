@@ -10,7 +10,7 @@ use crate::feeding::feed;
 use byte_streams::{CountedSource, Sink, Source};
 use filter_chain::{CheckedChain, Host, Limits, MemFiles, RawRings, Rings, Stored};
 use http_message::Failure;
-use module_tools::PlayFault;
+use module_commands::PlayFault;
 use std::alloc::Global;
 
 /// Filters a body on a host over these rings.

@@ -11,4 +11,4 @@ pub use ending::BodyEnd;
 pub use filter_chain::{CheckedChain, Limits};
 pub use filtering::{MOST_READ_BYTES, run_filter};
 pub use http_message::Failure;
-pub use module_tools::PlayFault;
+pub use module_commands::PlayFault;

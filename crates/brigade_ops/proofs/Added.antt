@@ -6,11 +6,11 @@ use Rattle.bucket_ring.specs.Kept.{NoneRevived}
 use Rattle.bucket_ring.specs.Lists.{on}
 use Rattle.run_model.specs.declared.bucket.Bucket.{Bucket}
 use Rattle.bucket_kinds.specs.declared.stored.Stored.{Stored}
-use Rattle.stored_rings.specs.Items.{Item, Items}
-use Rattle.stored_rings.specs.Shelf.{seen}
+use Rattle.bucket_store.specs.Items.{Item, Items}
+use Rattle.bucket_store.specs.BucketStore.{seen}
 use Rattle.brigade_ops.specs.declared.store.Brigades.{Brigades}
 use Rattle.brigade_ops.specs.Store.{lists}
-use Rattle.stored_rings.proofs.Shown.{on_cong}
+use Rattle.bucket_store.proofs.Shown.{on_cong}
 
 -- a bucket that is put in, and is seen as another one
 pub added : (b n : ℕ) (put : Item → Items → Items) (id : BucketId) (x y : Bucket) (old roomy : ℕ → Option Items) → x ≡ y → ((m : ℕ) → roomy m ≡ old m)

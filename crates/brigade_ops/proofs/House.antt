@@ -16,11 +16,11 @@ use Rattle.run_model.proofs.References.{Emptied, cleared_emptied, destroyed_empt
 use Rattle.run_model.specs.declared.effect.ClearKind.{ClearKind}
 use Rattle.run_model.specs.declared.effect.ClearKind.TheVariants.{Clear, Destroy}
 use Rattle.run_model.specs.Effects.{pools_after}
-use Rattle.stored_rings.specs.declared.morph.Morph.{Morph}
+use Rattle.bucket_store.specs.declared.morph.Morph.{Morph}
 use Rattle.brigade_ops.specs.Files.{refs_in, is_let_go}
 use Rattle.brigade_ops.specs.House.{all_refs, AreHoused, AreOpen, cleared_items, cleared_ring, pool_left}
-use Rattle.stored_rings.specs.Items.{Items}
-use Rattle.stored_rings.specs.Morphs.{all_morphed}
+use Rattle.bucket_store.specs.Items.{Items}
+use Rattle.bucket_store.specs.Morphs.{all_morphed}
 use Rattle.brigade_ops.proofs.Counts.{held_count, once_off, any_none, any_some, refs_counted, run_splits, brigade_handed, referred_none, referred_some}
 
 -- A file is closed where its last reference is handed on.

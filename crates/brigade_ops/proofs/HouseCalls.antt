@@ -16,7 +16,7 @@ use Rattle.bucket_kinds.specs.declared.stored.Stored.{Stored}
 use Rattle.brigade_ops.proofs.Counts.{held_count}
 use Rattle.brigade_ops.specs.declared.store.Brigades.{Brigades}
 use Rattle.brigade_ops.specs.House.{IsHouse, AreOpen}
-use Rattle.stored_rings.specs.Items.{Items}
+use Rattle.bucket_store.specs.Items.{Items}
 use Rattle.brigade_ops.specs.Store.{lists, pool_of, references}
 use Rattle.brigade_ops.proofs.Housed.{house_stays}
 

@@ -22,7 +22,7 @@ use Rattle.run_model.proofs.Updates.{upd_at, upd_off, upd_either}
 use Rattle.bucket_kinds.specs.declared.stored.Stored.{Stored}
 use Rattle.brigade_ops.specs.Files.{times_in}
 use Rattle.brigade_ops.specs.House.{all_refs, AreHoused, IsHouse, cleared_item}
-use Rattle.stored_rings.specs.Items.{Items, named, named_item}
+use Rattle.bucket_store.specs.Items.{Items, named, named_item}
 use Rattle.brigade_ops.specs.declared.store.Brigades.{Brigades}
 use Rattle.brigade_ops.specs.Store.{lists, pool_of, references}
 use Rattle.bucket_ring.specs.declared.rings.Rings.{Ghosts}

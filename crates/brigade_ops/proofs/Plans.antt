@@ -14,15 +14,15 @@ use Rattle.bucket_kinds.specs.declared.stored.Stored.{Stored}
 use Rattle.run_model.specs.declared.bucket.Bucket.{Bucket}
 use Rattle.run_model.specs.Buckets.{to_heap}
 use Rattle.run_model.specs.Pools.{is_in}
-use Rattle.stored_rings.specs.declared.morph.Morph.{Morph}
-use Rattle.stored_rings.specs.Items.{Item, Items, from_place}
+use Rattle.bucket_store.specs.declared.morph.Morph.{Morph}
+use Rattle.bucket_store.specs.Items.{Item, Items, from_place}
 use Rattle.brigade_ops.specs.House.{cleared_item, cleared_items}
-use Rattle.stored_rings.specs.Morphs.{kind_given, given_by, morphed, all_morphed, cleared_as, IsAsItWas}
+use Rattle.bucket_store.specs.Morphs.{kind_given, given_by, morphed, all_morphed, cleared_as, IsAsItWas}
 use Rattle.brigade_ops.specs.declared.store.Brigades.{Brigades}
-use Rattle.stored_rings.specs.Shelf.{seen}
+use Rattle.bucket_store.specs.BucketStore.{seen}
 use Rattle.brigade_ops.specs.Store.{brigade_of, bucket_at}
-use Rattle.stored_rings.proofs.Names.{in_more_other}
-use Rattle.stored_rings.proofs.Cleared.{given_once, given_twice, morphed_append, at_some}
+use Rattle.bucket_store.proofs.Names.{in_more_other}
+use Rattle.bucket_store.proofs.Cleared.{given_once, given_twice, morphed_append, at_some}
 
 -- One bucket more was looked at.
 module _ (reached : ℕ → Bool) (ready : List Morph) (name : BucketId) (r : Option Morph) (is : IfSome r (λ m. m.id ≡ name)) where

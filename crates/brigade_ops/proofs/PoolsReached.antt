@@ -14,7 +14,7 @@ use Rattle.pool_tree.specs.declared.tree.PoolTree.{PoolTree}
 use Rattle.pool_tree.specs.Tree.{map_of}
 use Rattle.pool_tree.proofs.Rooms.{found_is}
 use Rattle.pool_tree.proofs.Trees.{tree_formed}
-use Rattle.stored_rings.proofs.DueBuckets.{in_turned}
+use Rattle.bucket_store.proofs.DueBuckets.{in_turned}
 
 -- a search among names that rise finds the one that is there
 module _ (xs : List ℕ) (x : ℕ) where

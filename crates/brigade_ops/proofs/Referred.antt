@@ -14,7 +14,7 @@ use Rattle.run_model.specs.RunOrder.{killed}
 use Rattle.run_model.specs.Steps.{is_above, all_referred}
 use Rattle.run_model.specs.Cutting.{set_aside}
 use Rattle.brigade_ops.specs.Files.{times_in}
-use Rattle.stored_rings.specs.Items.{Item, aside_item}
+use Rattle.bucket_store.specs.Items.{Item, aside_item}
 use Rattle.brigade_ops.proofs.Undone.{killed_again}
 
 -- one reference more, behind the others

@@ -9,7 +9,7 @@ use Rattle.run_model.specs.RunOrder.{IsPoolMap}
 use Rattle.run_model.specs.Sound.{sum_below}
 use Rattle.brigade_ops.proofs.Counts.{held_count}
 use Rattle.brigade_ops.specs.House.{all_refs, AreHoused}
-use Rattle.stored_rings.specs.Items.{Items}
+use Rattle.bucket_store.specs.Items.{Items}
 
 -- where the terms from a bound on are 0, a sum goes no further
 sum_from : (f : ℕ → ℕ) (bound n : ℕ) → bound ≤ n → ((k : ℕ) → bound ≤ k → f k ≡ 0) → sum_below n f ≡ sum_below bound f

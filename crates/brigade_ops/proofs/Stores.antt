@@ -9,12 +9,12 @@ use Rattle.bucket_ring.specs.Laws as ring
 use Rattle.run_model.specs.declared.bucket.Bucket.{Bucket}
 use Rattle.bucket_kinds.specs.declared.stored.Stored.{Stored}
 use Rattle.brigade_ops.specs.declared.store.Brigades.{Brigades}
-use Rattle.stored_rings.specs.Items.{Items}
-use Rattle.stored_rings.specs.Laws.{IsGiven}
+use Rattle.bucket_store.specs.Items.{Items}
+use Rattle.bucket_store.specs.Laws.{IsGiven}
 use Rattle.brigade_ops.specs.Store.{lists, brigade_of, bucket_at, next_name}
-use Rattle.stored_rings.proofs.Lists.{and_then_told}
-use Rattle.stored_rings.proofs.Saves.{here_at}
-use Rattle.stored_rings.proofs.Shelves as shelf
+use Rattle.bucket_store.proofs.Lists.{and_then_told}
+use Rattle.bucket_store.proofs.Saves.{here_at}
+use Rattle.bucket_store.proofs.BucketStores as shelf
 
 module _ {R : Type 0} {g : Ghosts R Stored} (store : Brigades R g) where
   -- all of it

@@ -11,9 +11,9 @@ use Rattle.bucket_kinds.specs.Device.{Device}
 use Rattle.bucket_kinds.specs.Reading.{GivesFor}
 use Rattle.bucket_ring.specs.declared.names.BucketId.{BucketId}
 use Rattle.bucket_ring.specs.Lists.{list_at, found}
-use Rattle.stored_rings.specs.Items.{Items, range_in, replaced}
+use Rattle.bucket_store.specs.Items.{Items, range_in, replaced}
 use Rattle.brigade_ops.specs.Reads.{IsBucketRead}
-use Rattle.stored_rings.proofs.Lists.{on_same, put_back}
+use Rattle.bucket_store.proofs.Lists.{on_same, put_back}
 
 -- what a read leaves does not depend on the bytes
 pub rest_same : (bytes : List ℕ) (x : Bucket) → (read_of bytes x).1 ≡ (read_of [] x).1

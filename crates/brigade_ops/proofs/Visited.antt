@@ -7,11 +7,11 @@ use Rattle.bucket_ring.specs.declared.names.BucketId.{BucketId}
 use Rattle.run_model.specs.declared.bucket.Bucket.{Bucket}
 use Rattle.run_model.specs.BrigadeLists.{length_in}
 use Rattle.run_model.specs.Cutting.{length_of}
-use Rattle.stored_rings.specs.declared.parting.Point.{Point}
-use Rattle.stored_rings.specs.declared.parting.Point.TheVariants as point
-use Rattle.stored_rings.specs.Items.{Item, Items, named}
-use Rattle.stored_rings.specs.Points.{point_in}
-use Rattle.stored_rings.proofs.Points.{inside_first, past_first}
+use Rattle.bucket_store.specs.declared.parting.Point.{Point}
+use Rattle.bucket_store.specs.declared.parting.Point.TheVariants as point
+use Rattle.bucket_store.specs.Items.{Item, Items, named}
+use Rattle.bucket_store.specs.Points.{point_in}
+use Rattle.bucket_store.proofs.Points.{inside_first, past_first}
 use Rattle.brigade_ops.specs.Visits.{AreVisited, BucketVisits}
 
 -- where a point lies, of which so much was left when the walk stopped there, or nowhere

@@ -11,8 +11,8 @@ use Rattle.run_model.specs.Holding.{times_held}
 use Rattle.run_model.specs.Sound.{sum_below}
 use Rattle.bucket_kinds.specs.Device.{Device, is_there}
 use Rattle.brigade_ops.specs.declared.store.Brigades.{Brigades}
-use Rattle.stored_rings.specs.Items.{Item, Items}
-use Rattle.stored_rings.specs.Morphs.{cleared_as}
+use Rattle.bucket_store.specs.Items.{Item, Items}
+use Rattle.bucket_store.specs.Morphs.{cleared_as}
 use Rattle.brigade_ops.specs.Store.{lists, pool_of, references}
 
 -- how many references to a file all pools hold

@@ -19,16 +19,16 @@ pub use Rattle.bucket_kinds.specs.Device.{HasFailed, Missing, WasAsked, WentWell
 pub use Rattle.bucket_kinds.specs.Reading.{EndsWithin, GivesFor, IsOpenFor}
 pub use Rattle.bucket_kinds.specs.Stored.{Look, is_whole, shown}
 pub use Rattle.bucket_kinds.specs.declared.stored.Kept.{Kept}
-pub use Rattle.stored_rings.specs.Dependents.{names_of}
-pub use Rattle.stored_rings.specs.Due.{home_reached, is_due, kind_reached}
-pub use Rattle.stored_rings.specs.Items.{Items, aside_behind, aside_item, before_place, bytes_in, count_for, file_for, from_place, named}
-pub use Rattle.stored_rings.specs.Items.{pools_for, range_in, replaced, rest_item}
-pub use Rattle.stored_rings.specs.Morphs.{IsAsItWas, all_morphed, cleared_as, given_by, is_named, kind_given, morphed}
-pub use Rattle.stored_rings.specs.Noted.{place_of}
-pub use Rattle.stored_rings.specs.Points.{cut_at, is_inside, point_in}
-pub use Rattle.stored_rings.specs.Regions.{look}
-pub use Rattle.stored_rings.specs.Shown.{is_own, lies_right, own_bucket}
-pub use Rattle.stored_rings.specs.Views.{bucket_of, content_of}
+pub use Rattle.bucket_store.specs.Dependents.{names_of}
+pub use Rattle.bucket_store.specs.Due.{home_reached, is_due, kind_reached}
+pub use Rattle.bucket_store.specs.Items.{Items, aside_behind, aside_item, before_place, bytes_in, count_for, file_for, from_place, named}
+pub use Rattle.bucket_store.specs.Items.{pools_for, range_in, replaced, rest_item}
+pub use Rattle.bucket_store.specs.Morphs.{IsAsItWas, all_morphed, cleared_as, given_by, is_named, kind_given, morphed}
+pub use Rattle.bucket_store.specs.Noted.{place_of}
+pub use Rattle.bucket_store.specs.Points.{cut_at, is_inside, point_in}
+pub use Rattle.bucket_store.specs.Regions.{look}
+pub use Rattle.bucket_store.specs.Shown.{is_own, lies_right, own_bucket}
+pub use Rattle.bucket_store.specs.Views.{bucket_of, content_of}
 pub use Rattle.brigade_ops.specs.Due.{is_reached}
 pub use Rattle.brigade_ops.specs.Files.{SameButOpen, count_at, is_let_go, refs_in, times_in}
 pub use Rattle.brigade_ops.specs.House.{AreOpen, IsHouse, cleared_items, cleared_ring, pool_left}

@@ -8,9 +8,9 @@ use Rattle.run_model.specs.Cutting.{wanted, read_of}
 use Rattle.bucket_kinds.specs.Device.{Device, WentWell, HasFailed, WasAsked}
 use Rattle.bucket_kinds.specs.declared.refusal.ReadFault.{ReadFault}
 use Rattle.bucket_kinds.specs.Reading.{GivesFor, EndsWithin}
-use Rattle.stored_rings.specs.declared.refusal.ReadRefusal.{ReadRefusal}
-use Rattle.stored_rings.specs.declared.refusal.ReadRefusal.TheVariants as refusal
-use Rattle.stored_rings.specs.Items.{Items, replaced, rest_item}
+use Rattle.bucket_store.specs.declared.refusal.ReadRefusal.{ReadRefusal}
+use Rattle.bucket_store.specs.declared.refusal.ReadRefusal.TheVariants as refusal
+use Rattle.bucket_store.specs.Items.{Items, replaced, rest_item}
 
 -- A device was asked for the bytes of a content, or the read failed.
 pub record IsAskedFor {A : Type 0} (x : Content) (d e : Device) (result : Result A ReadFault) : Type 0 where

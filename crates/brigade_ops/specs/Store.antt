@@ -7,9 +7,9 @@ use Rattle.bucket_ring.specs.Lists.{list_at, found}
 use Rattle.bucket_kinds.specs.declared.stored.Stored.{Stored}
 use Rattle.run_model.specs.declared.bucket.Bucket.{Bucket}
 use Rattle.brigade_ops.specs.declared.store.Brigades.{Brigades}
-use Rattle.stored_rings.specs.Items.{Items}
+use Rattle.bucket_store.specs.Items.{Items}
 use Rattle.name_table.specs.NameTable.{value_in}
-use Rattle.stored_rings.specs.Shelf.{seen, IsGivenUp}
+use Rattle.bucket_store.specs.BucketStore.{seen, IsGivenUp}
 
 module _ {R : Type 0} {g : Ghosts R Stored} where
   -- the buckets of each brigade, by its name; None where there is no such brigade
@@ -40,6 +40,6 @@ module _ {R : Type 0} {g : Ghosts R Stored} where
   unfoldable pub has_room : Brigades R g → Type 0
   has_room store = g.has_room store.held.rings.rings
 
-  -- No bytes lie in the region of a pool, where it is known that no bucket is noted under it.
+  -- No bytes lie in the region of a pool, if no bucket of the store depends on it: by its kind, its home, or the place where its bytes lie.
   unfoldable pub IsFreed : Brigades R g → ℕ → Type 0
   IsFreed store p = IsGivenUp store.held p

@@ -2,7 +2,7 @@
 use Rattle.std.specs.Prelude.{◌≡◌, ◌⊎◌, Bool, true, false, [], ◌∷◌, Option, None, Some}
 use Rattle.bucket_ring.specs.declared.names.BucketId.{BucketId}
 use Rattle.run_model.specs.declared.bucket.Bucket.{Bucket}
-use Rattle.stored_rings.specs.Items.{Item, Items}
+use Rattle.bucket_store.specs.Items.{Item, Items}
 
 -- What a bucket does to a visitor: the state before it, its name, the bucket, whether the walk stops there, and the state that it leaves.
 abbrev pub BucketVisits : Type 0 → Type 1

@@ -7,10 +7,10 @@ ghost use Rattle.brigade_ops.specs.Prelude.{place_of, lies_right, content_of};
 use crate::store::Brigades;
 use bucket_kinds::{FileNo, Kept, Stored, stored_aside};
 use bucket_ring::{BucketId, Rings};
+use bucket_store::{ContentView, View};
 use pool_tree::{PoolId, PoolTree};
 use run_model::{Content, Home, Kind, Payload};
 use std::alloc::AllocError;
-use stored_rings::{ContentView, View};
 
 /// What stands in a bucket's place while that is changed: its kind, its home, and where it lies in a region, but no bytes of its own. So
 /// it depends on the same pools, and nothing is noted anew when the bucket is put back.

@@ -7,11 +7,11 @@ ghost use Rattle.brigade_ops.specs.Prelude.{shown, Items, bytes_in, look, lies_r
 use crate::store::{BrigadeId, Brigades};
 use bucket_kinds::{Kept, Stored};
 use bucket_ring::{BucketId, RingRefusal, Rings};
+use bucket_store::{ContentView, View};
 use run_model::Bucket;
 use std::alloc::AllocError;
-use stored_rings::{ContentView, View};
 
-#[tactic(auto, unfolding(stored_rings::specs::Shelf::seen, crate::specs::Store::lists, crate::specs::Store::brigade_of, crate::specs::Store::pool_of, crate::specs::Store::next_name, crate::specs::Store::references))]
+#[tactic(auto, unfolding(bucket_store::specs::BucketStore::seen, crate::specs::Store::lists, crate::specs::Store::brigade_of, crate::specs::Store::pool_of, crate::specs::Store::next_name, crate::specs::Store::references))]
 impl<R: Rings<Stored> + Drop> Brigades<R> {
     ghost use Rattle.brigade_ops.specs.Store.{lists, brigade_of, bucket_at, pool_of, next_name, references};
 

@@ -13,10 +13,10 @@ use crate::saving::push_some;
 use crate::store::{BrigadeId, Brigades};
 use bucket_kinds::{Files, Stored};
 use bucket_ring::{BucketId, Rings};
+use bucket_store::Morph;
 use pool_tree::{ClearKind, PoolId, PoolTree};
 use run_model::{Bucket, Home, Kind, Payload, Seq};
 use std::alloc::AllocError;
-use stored_rings::Morph;
 
 /// Whether a clear of a pool changes a bucket of this kind and home.
 pub(crate) fn depends_on(reached: &Reached, kind: Kind, home: Home) -> bool

@@ -6,10 +6,10 @@ ghost use Rattle.brigade_ops.specs.Prelude.{on, put_tail, put_after, with_payloa
 use crate::store::{BrigadeId, Brigades};
 use bucket_kinds::{SplitError, Stored, keep_own, stored_copy, stored_halves};
 use bucket_ring::{BucketId, RingRefusal, Rings};
+use bucket_store::SplitRefusal;
 use run_model::Bucket;
-use stored_rings::SplitRefusal;
 
-#[tactic(auto, unfolding(stored_rings::specs::Shelf::seen, crate::specs::Store::lists, crate::specs::Store::brigade_of, crate::specs::Store::pool_of, crate::specs::Store::next_name, crate::specs::Store::references, crate::specs::Store::has_room))]
+#[tactic(auto, unfolding(bucket_store::specs::BucketStore::seen, crate::specs::Store::lists, crate::specs::Store::brigade_of, crate::specs::Store::pool_of, crate::specs::Store::next_name, crate::specs::Store::references, crate::specs::Store::has_room))]
 impl<R: Rings<Stored> + Drop> Brigades<R> {
     ghost use Rattle.brigade_ops.specs.Store.{lists, brigade_of, bucket_at, pool_of, next_name, references, has_room};
 

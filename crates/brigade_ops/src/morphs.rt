@@ -10,10 +10,10 @@ use crate::saving::push_some;
 use crate::store::Brigades;
 use bucket_kinds::{Kept, Stored};
 use bucket_ring::{BucketId, Rings};
+use bucket_store::{HeapCopy, Morph};
 use pool_tree::PoolId;
 use run_model::{Bucket, Kind, Seq};
 use std::alloc::AllocError;
-use stored_rings::{HeapCopy, Morph};
 
 /// What a clear of a pool makes of buckets, made ready before it, with copies of the bytes that lie in regions; and the pools that it
 /// reaches.

@@ -7,8 +7,8 @@ ghost use Rattle.brigade_ops.specs.Prelude.{range_in, IsAskedFor, IsBucketRead, 
 use crate::store::Brigades;
 use bucket_kinds::{Files, ReadFault, Stored, keep_own, read_into, rest_of_read, room_to_read};
 use bucket_ring::{BucketId, Rings};
+use bucket_store::{ContentView, ReadRefusal};
 use run_model::{Bucket, Content, Seq};
-use stored_rings::{ContentView, ReadRefusal};
 
 #[tactic(auto, unfolding(crate::specs::Store::lists, crate::specs::Store::brigade_of, crate::specs::Store::pool_of, crate::specs::Store::next_name, crate::specs::Store::references, crate::specs::Store::has_room))]
 impl<R: Rings<Stored> + Drop> Brigades<R> {

@@ -8,7 +8,7 @@ use bucket_kinds::Stored;
 use bucket_ring::{RingRefusal, Rings};
 use run_model::{Bucket, Home, Kind};
 
-#[tactic(auto, unfolding(stored_rings::specs::Shelf::seen, crate::specs::Store::lists, crate::specs::Store::brigade_of, crate::specs::Store::pool_of, crate::specs::Store::next_name, crate::specs::Store::references, crate::specs::Store::has_room))]
+#[tactic(auto, unfolding(bucket_store::specs::BucketStore::seen, crate::specs::Store::lists, crate::specs::Store::brigade_of, crate::specs::Store::pool_of, crate::specs::Store::next_name, crate::specs::Store::references, crate::specs::Store::has_room))]
 impl<R: Rings<Stored> + Drop> Brigades<R> {
     ghost use Rattle.brigade_ops.specs.Store.{lists, brigade_of, pool_of, next_name, references, has_room};
 

@@ -74,7 +74,7 @@ impl<R: Rings<Stored> + Drop> Brigades<R> {
 
     /// Sets each bucket of `b` aside into the pool that `o` is on, and moves them to the tail of `o` (`ap_save_brigade`). A FILE bucket
     /// whose home is not above the pool gets a reference to its file there, and no other takes memory. Refused, nothing is changed.
-    #[tactic(auto, unfolding(stored_rings::specs::Shelf::seen, crate::specs::Store::lists, crate::specs::Store::brigade_of, crate::specs::Store::pool_of, crate::specs::Store::next_name, crate::specs::Store::references, crate::specs::Files::count_at), using(pool_tree::proofs::Trees::tree_formed))]
+    #[tactic(auto, unfolding(bucket_store::specs::BucketStore::seen, crate::specs::Store::lists, crate::specs::Store::brigade_of, crate::specs::Store::pool_of, crate::specs::Store::next_name, crate::specs::Store::references, crate::specs::Files::count_at), using(pool_tree::proofs::Trees::tree_formed))]
     pub fn save(
         &mut self,
         tree: &mut PoolTree<Payload>,

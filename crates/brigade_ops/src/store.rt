@@ -4,9 +4,9 @@ ghost use Rattle.std.specs.Prelude.{◌≡◌, ℕ, None};
 
 use bucket_kinds::Stored;
 use bucket_ring::{RingId, Rings};
+use bucket_store::BucketStore;
 use name_table::NameTable;
 use std::alloc::Global;
-use stored_rings::Shelf;
 
 /// The name of a brigade, which is never given again.
 pub type BrigadeId = RingId;
@@ -15,7 +15,7 @@ pub type BrigadeId = RingId;
 #[derive(Drop)]
 pub struct Brigades<R: Rings<Stored>> {
     pub(crate) alloc: Global,
-    pub(crate) held: Shelf<R>,
+    pub(crate) held: BucketStore<R>,
     pub(crate) pools: NameTable<u64>,
     pub(crate) references: NameTable<u64>,
     pub(crate) asked: u64,
@@ -35,7 +35,7 @@ impl<R: Rings<Stored> + Drop> Brigades<R> {
     {
         Brigades {
             alloc,
-            held: Shelf::new(alloc, first),
+            held: BucketStore::new(alloc, first),
             pools: NameTable::new(alloc),
             references: NameTable::new(alloc),
             asked: 0,

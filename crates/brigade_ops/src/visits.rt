@@ -6,7 +6,7 @@ ghost use Rattle.brigade_ops.specs.Prelude.{Bucket, BucketId, bucket_of, list_at
 use crate::store::{BrigadeId, Brigades};
 use bucket_kinds::Stored;
 use bucket_ring::{BucketId, Rings};
-use stored_rings::View;
+use bucket_store::View;
 
 /// What looks at the buckets of a brigade, one after another, until it has seen enough.
 pub trait Visitor {

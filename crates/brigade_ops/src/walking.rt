@@ -9,8 +9,8 @@ use crate::store::{BrigadeId, Brigades};
 use crate::visits::Visitor;
 use bucket_kinds::Stored;
 use bucket_ring::{BucketId, RingRefusal, Rings};
+use bucket_store::{Cut, Point, SplitRefusal, View};
 use run_model::Bucket;
-use stored_rings::{Cut, Point, SplitRefusal, View};
 
 /// What goes along a brigade up to a point.
 #[derive(Drop)]

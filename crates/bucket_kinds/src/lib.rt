@@ -13,6 +13,7 @@ mod reading;
 mod refusal;
 mod stored;
 
+pub use apr_region::{Region, Span};
 pub use cutting::{aside_bucket, copy_bucket, halves, length, split_bucket};
 pub use disk_files::DiskFiles;
 pub use files::{FileNo, Files};

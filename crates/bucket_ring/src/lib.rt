@@ -12,5 +12,6 @@ mod slots;
 pub use laws::{names_run_out, worked_moves};
 pub use linked_rings::{LinkedRings, PlainRings, RawRings};
 pub use names::{BucketId, RingId, RingRefusal};
+pub use raw_nodes::{Node, SlotBucket};
 pub use rings::Rings;
 pub use slots::Slots;

@@ -4,6 +4,7 @@ ghost use Rattle.std.specs.Prelude.{◌≡◌, ◌+◌, ◌<◌, IfErr, IfOk, On
 ghost use Rattle.byte_streams.specs.Counted.{IsCounted, reads_left, source_of};
 
 use crate::source::{ReadAnswer, Source};
+use thiserror::Error;
 
 /// How many bytes a read of this project asks for.
 pub const READ_BYTES: usize = 8192;
@@ -12,11 +13,13 @@ pub const READ_BYTES: usize = 8192;
 pub const READS: u32 = 1_000_000;
 
 /// Why a read of a source with a bound gives nothing.
-#[derive(Clone, Copy, Debug, PartialEq, Eq)]
+#[derive(Clone, Copy, Debug, PartialEq, Eq, Error)]
 pub enum CountedFault {
     /// The source failed.
+    #[error("cannot read")]
     Failed,
     /// It was read as often as it may be, and was not asked again.
+    #[error("too many reads")]
     TooManyReads,
 }
 

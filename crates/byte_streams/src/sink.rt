@@ -6,6 +6,7 @@ ghost use Rattle.byte_streams.specs.Texts.{IsPut, joined};
 ghost use Rattle.byte_streams.specs.Transfers.{IsWritten, IsAllWritten};
 
 use crate::parts::Parts;
+use thiserror::Error;
 
 /// What a write took.
 #[derive(Clone, Copy, Debug, PartialEq, Eq)]
@@ -17,11 +18,13 @@ pub enum WriteAnswer {
 }
 
 /// Why bytes were not taken.
-#[derive(Clone, Copy, Debug, PartialEq, Eq)]
+#[derive(Clone, Copy, Debug, PartialEq, Eq, Error)]
 pub enum SinkFault {
     /// The sink failed, or took nothing of some bytes.
+    #[error("cannot write")]
     Failed,
     /// There was no memory for them. The sink is as it was, and has not failed.
+    #[error("no memory")]
     NoMemory,
 }
 

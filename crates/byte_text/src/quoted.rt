@@ -4,10 +4,10 @@ ghost use Rattle.std.specs.Prelude.{◌≡◌, ℕ, true, ◌+◌, ◌<◌, ◌�
 ghost use Rattle.byte_text.specs.QuotedTexts.{Spells, StandsIn};
 ghost use Rattle.byte_text.specs.Quoted.{hex_value, hex_digit, plain, escaped, scanned, IsBelow16, is_done, measured_from, text_from, quoted};
 ghost use Rattle.byte_text.specs.Quoted.{measure_of, text_of, with_length, spelled, spelled_all, spelling};
-ghost use Rattle.byte_text.specs.Writes.{Wrote};
+ghost use Rattle.byte_text.specs.Writes.{Wrote, writer_state};
 
 use crate::bytes::is_printable;
-use crate::writer::{WriteFault, put_all};
+use crate::writer::{TextWriter, WriteFault, put_all};
 use module_code::Seq;
 use std::alloc::{AllocError, Global};
 use std::io::Write;
@@ -369,8 +369,8 @@ pub fn push_spelling(out: &mut Vec<u8>, text: &[u8]) -> Result<(), AllocError>
     outcome
 }
 
-fn put_spelled<W: Write>(out: &mut W, text: &[u8]) -> Result<(), WriteFault>
-    ensures { Wrote result (W.contents out.old) (W.contents out.new) (spelled_all text.now) }
+fn put_spelled<W: Write>(out: &mut TextWriter<W>, text: &[u8]) -> Result<(), WriteFault>
+    ensures { Wrote result (writer_state W.contents out.old) (writer_state W.contents out.new) (spelled_all text.now) }
 {
     for byte in text {
         put_all(out, spelled_byte(*byte).as_slice())?;
@@ -380,8 +380,8 @@ fn put_spelled<W: Write>(out: &mut W, text: &[u8]) -> Result<(), WriteFault>
 
 /// Writes a text in quotes into a writer, as `push_spelling` does into a list. Takes no memory. Where the writer
 /// fails, a front of it is written.
-pub fn print_text<W: Write>(out: &mut W, text: &[u8]) -> Result<(), WriteFault>
-    ensures { Wrote result (W.contents out.old) (W.contents out.new) (spelling text.now) }
+pub fn print_text<W: Write>(out: &mut TextWriter<W>, text: &[u8]) -> Result<(), WriteFault>
+    ensures { Wrote result (writer_state W.contents out.old) (writer_state W.contents out.new) (spelling text.now) }
 {
     put_all(out, b"\"")?;
     put_spelled(out, text)?;

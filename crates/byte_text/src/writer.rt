@@ -1,7 +1,7 @@
 //! The whole of a text, into a writer.
 
-ghost use Rattle.std.specs.Prelude.{◌≡◌};
-ghost use Rattle.byte_text.specs.Writes.{Wrote};
+ghost use Rattle.std.specs.Prelude.{◌≡◌, false};
+ghost use Rattle.byte_text.specs.Writes.{Wrote, is_failed, writer_in, writer_state};
 
 use std::io::Write;
 use thiserror::Error;
@@ -11,14 +11,55 @@ use thiserror::Error;
 #[error("cannot write")]
 pub struct WriteFault;
 
-/// Writes all of a text. Where that fails, a front of it is written.
-pub fn put_all<W: Write>(out: &mut W, text: &[u8]) -> Result<(), WriteFault>
-    ensures { Wrote result (W.contents out.old) (W.contents out.new) text.now }
+/// A writer of texts. It remembers whether a write failed.
+#[derive(Drop)]
+pub struct TextWriter<W> {
+    writer: W,
+    has_failed: bool,
+}
+
+impl<W> TextWriter<W> {
+    /// A writer that has not failed.
+    pub fn new(writer: W) -> TextWriter<W>
+        ensures writer { writer_in result ≡ writer }
+        ensures sound { is_failed result ≡ false }
+    {
+        TextWriter {
+            writer,
+            has_failed: false,
+        }
+    }
+
+    /// Whether a write failed.
+    pub fn has_failed(&self) -> bool
+        ensures { result ≡ is_failed self.now }
+    {
+        self.has_failed
+    }
+
+    /// What it wrote into.
+    pub fn into_writer(self) -> W
+        ensures { result ≡ writer_in self }
+    {
+        let TextWriter {
+            writer,
+            has_failed: _,
+        } = self;
+        writer
+    }
+}
+
+/// Writes all of a text. Where that fails, a front of it is written, and the writer failed.
+pub fn put_all<W: Write>(out: &mut TextWriter<W>, text: &[u8]) -> Result<(), WriteFault>
+    ensures { Wrote result (writer_state W.contents out.old) (writer_state W.contents out.new) text.now }
 {
     let mut at = 0;
     while at < text.len() {
-        match out.write(&text[at..]) {
-            Ok(0) | Err(_) => return Err(WriteFault),
+        match out.writer.write(&text[at..]) {
+            Ok(0) | Err(_) => {
+                out.has_failed = true;
+                return Err(WriteFault);
+            }
             Ok(count) => at += count,
         }
     }

@@ -23,8 +23,8 @@ use Rattle.run_model.specs.Passing.{Reads}
 use Rattle.run_model.specs.State.{items_of}
 use Rattle.run_model.specs.Steps.{current}
 use Rattle.bucket_kinds.specs.Device.{Device, AllWentWell, HasFailed, SameFolder, SomeWentWell, Sound, WasAsked, WentWell, moved, nearer, spent}
-use Rattle.ring_passes.specs.Delivery.{IfElse, PartGiven, PartsGiven, ContentGiven, ReadsGiven}
-use Rattle.ring_calls.specs.Given.{MayGive}
+use Rattle.interp_calls.specs.Delivery.{IfElse, PartGiven, PartsGiven, ContentGiven, ReadsGiven}
+use Rattle.interp_state.specs.Given.{MayGive}
 use Rattle.module_run.specs.Proceeding.{SameBeside, TellsReads}
 use Rattle.filter_chain.specs.Spared.{Spares}
 use Rattle.module_run.specs.Stepping.{LackedIn, LackedAtTop, TellsAtTop, TellsStep}

@@ -36,7 +36,7 @@ use Rattle.brigade_ops.specs.declared.store.Brigades.{Brigades}
 use Rattle.brigade_ops.specs.Files.{SameButOpen}
 use Rattle.brigade_ops.specs.House.{AreOpen, IsHouse}
 use Rattle.brigade_ops.specs.Store.{lists, next_name, references}
-use Rattle.ring_run.specs.CarriedOut.{ClosedWith, WereLetGo}
+use Rattle.interp_exec.specs.CarriedOut.{ClosedWith, WereLetGo}
 use Rattle.module_run.specs.declared.conn.Conn.{Conn}
 use Rattle.module_run.specs.Neighbours.{LeavesOthers}
 use Rattle.module_run.specs.Proceeding.{LeftAs, StandsFor}

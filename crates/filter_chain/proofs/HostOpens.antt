@@ -15,7 +15,7 @@ use Rattle.bucket_kinds.specs.Device.{Device}
 use Rattle.pool_tree.specs.Tree.{map_of}
 use Rattle.bucket_ring.specs.Kept.{once_in}
 use Rattle.brigade_ops.specs.House.{AreOpen, IsHouse}
-use Rattle.stored_rings.specs.Items.{Items}
+use Rattle.bucket_store.specs.Items.{Items}
 use Rattle.brigade_ops.specs.Store.{lists, brigade_of, next_name, pool_of, references}
 use Rattle.module_run.specs.Conns.{conn_of}
 use Rattle.module_run.specs.Stacked.{AreWhole, IsStacked}

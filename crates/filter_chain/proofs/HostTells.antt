@@ -14,7 +14,7 @@ use Rattle.run_model.specs.Chains.{Connection}
 use Rattle.run_model.specs.Worlds.{World, Labels, Output, happens_on}
 use Rattle.model_laws.specs.SharedPools.{over}
 use Rattle.pool_tree.specs.Tree.{map_of}
-use Rattle.stored_rings.specs.Items.{Items}
+use Rattle.bucket_store.specs.Items.{Items}
 use Rattle.brigade_ops.specs.Store.{lists, brigade_of, next_name, pool_of}
 use Rattle.module_run.specs.declared.conn.Conn.{Conn}
 use Rattle.module_run.specs.declared.conn.Filter.{Filter}

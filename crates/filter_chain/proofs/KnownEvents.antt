@@ -33,7 +33,7 @@ use Rattle.bucket_kinds.specs.declared.stored.Stored.{Stored}
 use Rattle.brigade_ops.specs.declared.store.Brigades.{Brigades}
 use Rattle.brigade_ops.specs.Files.{SameButOpen}
 use Rattle.brigade_ops.specs.Store.{lists, next_name}
-use Rattle.ring_run.specs.CarriedOut.{ClosedWith}
+use Rattle.interp_exec.specs.CarriedOut.{ClosedWith}
 use Rattle.module_run.specs.declared.conn.Conn.{Conn}
 use Rattle.module_run.specs.Happened.{Happened, lasted, refusal_of}
 use Rattle.module_run.specs.Proceeding.{LeftAs, StandsFor}

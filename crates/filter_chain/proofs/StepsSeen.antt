@@ -35,7 +35,7 @@ use Rattle.model_laws.proofs.parts.LetGo.{lets_go_alike}
 use Rattle.model_laws.proofs.parts.Seen.{its_part}
 use Rattle.model_laws.proofs.parts.Steps.{wanted_under}
 use Rattle.model_laws.proofs.parts.Within.{StaysWithin}
-use Rattle.ring_run.specs.CarriedOut.{ClosedWith, WereLetGo}
+use Rattle.interp_exec.specs.CarriedOut.{ClosedWith, WereLetGo}
 use Rattle.module_run.specs.Proceeding.{TellsClear, TellsReads}
 use Rattle.module_run.specs.Stepping.{ClearsAtTop, ClosesStep, LackedAtTop, LackedIn, TellsAtTop, TellsStep}
 use Rattle.filter_chain.proofs.StepCounts.{went_on}

@@ -10,7 +10,7 @@ use Rattle.run_model.specs.Chains.{Connection, Common, pools_of}
 use Rattle.run_model.specs.Passing.{Reads}
 use Rattle.run_model.specs.Worlds.{World, Told, Answer, Done, Refused, Step, Labels, happens}
 use Rattle.bucket_kinds.specs.Device.{Device, Holds, IsUnasked, is_there}
-use Rattle.ring_run.specs.CarriedOut.{ClosedWith}
+use Rattle.interp_exec.specs.CarriedOut.{ClosedWith}
 use Rattle.module_run.specs.OpenedFile.{IsAfterOpening, MayTell}
 use Rattle.module_run.specs.Stepping.{ClosesStep, TellsStep}
 

@@ -27,7 +27,7 @@ use Rattle.module_run.specs.Neighbours.{HoldsName}
 pub use Rattle.filter_chain.specs.declared.host.Host.{Host}
 use Rattle.filter_chain.specs.HostViews.{Answers, host_view}
 use Rattle.filter_chain.specs.Hosted.{conn_at, IsHosted}
-use Rattle.ring_run.specs.declared.labels_run.LabelsRun.{LabelsRun}
+use Rattle.interp_exec.specs.declared.labels_run.LabelsRun.{LabelsRun}
 
 -- It is there exactly where the model has it, and as the model has it.
 abbrev pub IsHostedIf : {R : Type 0} {g : Ghosts R Stored} → List Program → PoolTree Payload → Brigades R g → Device → Option Conn → Option Connection → Type 0

@@ -7,7 +7,7 @@ ghost use Rattle.run_model.specs.Worlds.{World};
 use crate::host::Host;
 use bucket_kinds::{Files, Stored};
 use bucket_ring::Rings;
-use ring_run::labels_run::LabelsRun;
+use interp_exec::labels_run::LabelsRun;
 use run_model::Refusal;
 
 impl<F: Files + Drop, R: Rings<Stored> + Drop> Host<F, R> {

@@ -16,13 +16,12 @@ mod spare;
 mod stepping;
 mod telling;
 
-pub use block_bytes::BlockBytes;
 pub use bucket_kinds::{AddRefusal, FileNo, Files, MemFiles, Stored};
 pub use bucket_ring::{RawRings, Rings};
-pub use byte_text::WriteFault;
+pub use byte_text::{BlockBytes, TextWriter, WriteFault};
 pub use host::Host;
+pub use interp_exec::labels_run::LabelsRun;
 pub use life_check::CheckedChain;
 pub use limits::Limits;
 pub use pool_tree::{PoolError, PoolId};
-pub use ring_run::labels_run::LabelsRun;
 pub use run_model::{Cause, Module, Payload, Piece, Refusal, Seq, Stepped};

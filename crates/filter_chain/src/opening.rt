@@ -6,8 +6,8 @@ ghost use Rattle.filter_chain.specs.Prelude.{Open, is_spent, World, map_of, next
 use crate::host::Host;
 use bucket_kinds::{Files, Stored};
 use bucket_ring::Rings;
+use interp_state::asks::is_spent;
 use module_run::Conn;
-use ring_calls::asks::is_spent;
 use run_model::Refusal;
 
 /// Whether no connection can have a number behind this one.

@@ -1,6 +1,6 @@
 //! A block for an output to come.
 
-use block_bytes::BlockBytes;
+use byte_text::BlockBytes;
 use std::alloc::Global;
 use std::marker::Model;
 use std::mem;

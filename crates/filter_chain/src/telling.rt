@@ -4,10 +4,10 @@ ghost use Rattle.std.specs.Prelude.{◌≡◌, Err, IfErr, IfOk, Ok};
 ghost use Rattle.filter_chain.specs.Prelude.{TakeOutput, TellLabels, World, Labels, Refused, labels_handed, refusal_of};
 
 use crate::host::Host;
-use block_bytes::BlockBytes;
 use bucket_kinds::{Files, Stored};
 use bucket_ring::Rings;
-use ring_run::labels_run::LabelsRun;
+use byte_text::BlockBytes;
+use interp_exec::labels_run::LabelsRun;
 use run_model::Refusal;
 
 impl<F: Files + Drop, R: Rings<Stored> + Drop> Host<F, R> {

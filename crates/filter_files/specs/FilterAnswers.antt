@@ -6,9 +6,9 @@ use Rattle.module_code.specs.Program.{Program}
 use Rattle.module_lang.specs.FirstFault.{IsReadAs}
 use Rattle.life_check.specs.Slim.{Accepts}
 use Rattle.life_check.specs.declared.cert.Cert.{Cert}
-use Rattle.module_tools.specs.TextAnswers.{OutputSpec}
-use Rattle.module_tools.specs.declared.ended.Ended.{Ended}
-use Rattle.module_tools.specs.declared.ended.Ended.TheVariants as ended
+use Rattle.module_commands.specs.TextAnswers.{OutputSpec}
+use Rattle.module_commands.specs.declared.ended.Ended.{Ended}
+use Rattle.module_commands.specs.declared.ended.Ended.TheVariants as ended
 use Rattle.script_text.specs.Replies.{line}
 
 -- the line of what is wrong at a line and a column

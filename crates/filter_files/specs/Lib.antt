@@ -1,4 +1,4 @@
-pub use Rattle.module_tools.specs.TextAnswers
+pub use Rattle.module_commands.specs.TextAnswers
 pub use Rattle.author_text.specs.Places
 pub mod FilterAnswers
 pub mod FilterReads

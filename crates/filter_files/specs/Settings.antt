@@ -1,5 +1,5 @@
 -- Settings of params, as words say them.
-use Rattle.std.specs.Prelude.{◌≡◌, ℕ, List, ◌++◌, ◌∷◌, Option, Some, None, true}
+use Rattle.std.specs.Prelude.{◌≡◌, ℕ, List, ◌++◌, ◌∷◌, Option, Some, None, true, map}
 use Rattle.std.specs.Option.{option_copied}
 use Rattle.filter_files.specs.declared.settings.ParamSetting.{ParamSetting}
 
@@ -15,3 +15,7 @@ setting_word s = setting_name (option_copied s.filter) s.param.now ++ 61 ∷ s.v
 -- it was set in a filter
 abbrev pub IsUsed : ParamSetting → Type 0
 IsUsed s = s.is_used ≡ true
+
+-- They are the settings that the same words say.
+abbrev pub KeepsWords : List ParamSetting → List ParamSetting → Type 0
+KeepsWords old new = map setting_word new ≡ map setting_word old

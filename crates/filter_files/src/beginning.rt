@@ -1,11 +1,11 @@
 //! The command `new --filter`.
 
 ghost use Rattle.std.specs.Prelude.{◌≡◌, IfOk};
-ghost use Rattle.module_tools.specs.declared.ended.Ended.TheVariants as ended;
+ghost use Rattle.module_commands.specs.declared.ended.Ended.TheVariants as ended;
 ghost use Rattle.filter_files.specs.Prelude.{TellsOfWriter, WritesText};
 
 use byte_streams::Sink;
-use module_tools::{Ended, PlayFault, write_text};
+use module_commands::{Ended, PlayFault, write_text};
 
 /// A filter to begin with: it compiles as it stands.
 pub const FILTER_FRAME: &str = concat!(

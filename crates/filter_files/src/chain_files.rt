@@ -5,12 +5,13 @@ ghost use Rattle.filter_files.specs.Stops.{IsStopOf};
 
 use crate::compiling::{FilterFault, FilterRead, read_filter};
 use crate::settings::{ParamSetting, unused_setting};
-use crate::start_error::{StartCause, StartError, cannot_read, told};
+use crate::start_error::{StartCause, StartError, cannot_read, named_lines, told};
+use author_code::PerByte;
 use author_compile::Compiled;
 use byte_streams::CountedSource;
 use life_check::CheckedChain;
-use module_tools::{CommandOutput, Loaded, NamedFile, PlayFault, load_part};
-use script_text::{Refused, ScriptModule, accept_parts, put_refused_module};
+use module_commands::{CommandOutput, Loaded, NamedFile, PlayFault, load_part};
+use script_text::{Refused, ScriptModule, accept_parts, put_refused_at, put_refused_module};
 use std::alloc::{AllocError, Global};
 use std::rt::Files as FileSystem;
 
@@ -40,7 +41,8 @@ fn part_of(
     match loaded {
         Ok(Loaded::Part(part)) => Ok(part),
         Ok(Loaded::Told(CommandOutput { text, ended: _ })) => {
-            Err(StartError::Told(text, StartCause::Told))
+            let cause = named_lines(alloc, name, text.as_slice(), &[])?;
+            Err(StartError::Told(text, cause))
         }
         Err(fault) => Err(stop_of(alloc, fault, name, cause)),
     }
@@ -78,53 +80,68 @@ fn read_module<R: FileSystem + AllocGlobal>(
 }
 
 /// The stop of a filter of a chain that is not compiled: `refused module I at line L, column C: WHAT` where it has a place, else the line.
-fn stop_of_filter(alloc: Global, index: usize, fault: FilterFault) -> Result<StartError, AllocError>
+fn stop_of_filter(
+    alloc: Global,
+    index: usize,
+    fault: FilterFault,
+    cause: StartCause,
+) -> Result<StartError, AllocError>
     ensures { IfOk result (IsStopOf index fault) }
 {
     let FilterFault { place, line } = fault;
     if place.is_none() {
-        return Ok(StartError::Told(line, StartCause::Told));
+        return Ok(StartError::Told(line, cause));
     }
     let head = format!(in alloc; "refused module {index} at ")?;
     let mut text = Vec::from_slice(alloc, head.as_bytes())?;
     text.extend_from_slice(line.as_slice())?;
-    Ok(StartError::Told(text, StartCause::Told))
+    Ok(StartError::Told(text, cause))
 }
 
-/// The module of a filter with its certificate.
-fn part_of_filter(
-    alloc: Global,
-    index: usize,
-    read: FilterRead,
-) -> Result<ScriptModule, StartError> {
-    match read {
-        FilterRead::Compiled(
-            Compiled {
-                code,
-                cert,
-                text: _,
-                per_byte: _,
-            },
-        ) => Ok(ScriptModule {
+/// What is read of the files of a chain.
+#[derive(Drop)]
+struct ChainParts {
+    /// The modules with their certificates.
+    modules: Vec<ScriptModule>,
+    /// How many instructions a byte takes at most in the filters that were compiled, together.
+    per_byte: u64,
+}
+
+impl ChainParts {
+    fn add(&mut self, module: ScriptModule) -> Result<(), StartError> {
+        self.modules.push(module).map_err(AllocError::from)?;
+        Ok(())
+    }
+
+    /// Adds a filter that was compiled.
+    fn add_compiled(&mut self, compiled: Compiled) -> Result<(), StartError> {
+        let Compiled {
+            code,
+            cert,
+            text: _,
+            per_byte,
+        } = compiled;
+        if let PerByte::Most(count) = per_byte {
+            self.per_byte = self.per_byte.saturating_add(count as u64);
+        }
+        self.add(ScriptModule {
             code,
             cert: Some(cert),
-        }),
-        FilterRead::Told(fault) => Err(stop_of_filter(alloc, index, fault)?),
+        })
     }
 }
 
-/// Reads and compiles a filter, which is the one of this index in its chain.
+/// Reads and compiles the filter of a file.
 fn read_source_file<R: FileSystem + AllocGlobal>(
     rt: &R,
-    index: usize,
     name: &str,
     settings: &mut [ParamSetting<'_>],
-) -> Result<ScriptModule, StartError> {
+    notes: &mut Vec<u8>,
+) -> Result<FilterRead, StartError> {
     let alloc = rt.alloc();
     let mut reader = CountedSource::from_reader(NamedFile::new(rt, name));
-    let mut notes = Vec::new(alloc);
-    match read_filter(alloc, &mut reader, settings, false, &mut notes) {
-        Ok(read) => part_of_filter(alloc, index, read),
+    match read_filter(alloc, &mut reader, settings, false, notes) {
+        Ok(read) => Ok(read),
         Err(fault) => {
             let cause = StartCause::of_fault(reader.source().reader.fault());
             Err(stop_of(alloc, fault, name, cause))
@@ -132,17 +149,25 @@ fn read_source_file<R: FileSystem + AllocGlobal>(
     }
 }
 
-/// The module of a file with its certificate.
+/// Adds the module of a file with its certificate; the file is the one of this index in its chain.
 fn read_part<R: FileSystem + AllocGlobal>(
     rt: &R,
     index: usize,
     name: &str,
     settings: &mut [ParamSetting<'_>],
-) -> Result<ScriptModule, StartError> {
-    if is_filter_name(name) {
-        read_source_file(rt, index, name, settings)
-    } else {
-        read_module(rt, name)
+    parts: &mut ChainParts,
+) -> Result<(), StartError> {
+    let alloc = rt.alloc();
+    if !is_filter_name(name) {
+        return parts.add(read_module(rt, name)?);
+    }
+    let mut notes = Vec::new(alloc);
+    match read_source_file(rt, name, settings, &mut notes)? {
+        FilterRead::Compiled(compiled) => parts.add_compiled(compiled),
+        FilterRead::Told(fault) => {
+            let cause = named_lines(alloc, name, fault.line.as_slice(), notes.as_slice())?;
+            Err(stop_of_filter(alloc, index, fault, cause)?)
+        }
     }
 }
 
@@ -156,24 +181,34 @@ fn read_parts<R: FileSystem + AllocGlobal>(
     rt: &R,
     names: &[&str],
     settings: &mut [ParamSetting<'_>],
-    parts: &mut Vec<ScriptModule>,
-) -> Result<(), StartError> {
+) -> Result<ChainParts, StartError> {
+    let mut parts = ChainParts {
+        modules: Vec::new(rt.alloc()),
+        per_byte: 0,
+    };
     for (index, name) in names.iter().enumerate() {
-        let part = read_part(rt, index, *name, settings)?;
-        parts.push(part).map_err(AllocError::from)?;
+        read_part(rt, index, *name, settings, &mut parts)?;
     }
-    Ok(())
+    Ok(parts)
 }
 
-/// The stop of a module of a chain that is refused.
-fn stop_of_module(alloc: Global, at: Refused) -> Result<StartError, AllocError> {
+/// The stop of a module of a chain that is refused, which stands in one of these files.
+fn stop_of_module(alloc: Global, names: &[&str], at: Refused) -> Result<StartError, AllocError> {
     let mut line = Vec::new(alloc);
     put_refused_module(alloc, &mut line, at.index, at.refusal.pc, at.refusal.rule)?;
-    Ok(StartError::Told(line, StartCause::Told))
+    let mut own = Vec::new(alloc);
+    put_refused_at(alloc, &mut own, at.refusal.pc, at.refusal.rule)?;
+    let name = names.get(at.index).copied().unwrap_or("");
+    let cause = named_lines(alloc, name, own.as_slice(), &[])?;
+    Ok(StartError::Told(line, cause))
 }
 
-/// The chain of these modules, which is checked.
-fn chain_of(alloc: Global, parts: Vec<ScriptModule>) -> Result<CheckedChain, StartError> {
+/// The chain of these modules, which is checked. They are those of these files.
+fn chain_of(
+    alloc: Global,
+    names: &[&str],
+    parts: Vec<ScriptModule>,
+) -> Result<CheckedChain, StartError> {
     if parts.is_empty() {
         return Err(no_chain(alloc));
     }
@@ -182,7 +217,7 @@ fn chain_of(alloc: Global, parts: Vec<ScriptModule>) -> Result<CheckedChain, Sta
     }
     match accept_parts(alloc, parts)? {
         Ok(chain) => Ok(chain),
-        Err(at) => Err(stop_of_module(alloc, at)?),
+        Err(at) => Err(stop_of_module(alloc, names, at)?),
     }
 }
 
@@ -192,6 +227,15 @@ fn unless_unused(alloc: Global, settings: &[ParamSetting<'_>]) -> Result<(), Sta
         None => Ok(()),
         Some(FilterFault { place: _, line }) => Err(StartError::Told(line, StartCause::Told)),
     }
+}
+
+/// A chain of files.
+#[derive(Drop)]
+pub struct FileChain {
+    /// The chain, which is checked.
+    pub chain: CheckedChain,
+    /// How many instructions a byte takes at most in those of its filters that were compiled and have such a bound, together.
+    pub per_byte: u64,
 }
 
 /// The chain of these files, which is checked. A file whose name ends in `.filter` has a filter in the language for authors, which is compiled;
@@ -204,10 +248,10 @@ pub fn read_chain<R: FileSystem + AllocGlobal>(
     rt: &R,
     names: &[&str],
     settings: &mut [ParamSetting<'_>],
-) -> Result<CheckedChain, StartError> {
+) -> Result<FileChain, StartError> {
     let alloc = rt.alloc();
-    let mut parts = Vec::new(alloc);
-    read_parts(rt, names, settings, &mut parts)?;
+    let ChainParts { modules, per_byte } = read_parts(rt, names, settings)?;
     unless_unused(alloc, settings)?;
-    chain_of(alloc, parts)
+    let chain = chain_of(alloc, names, modules)?;
+    Ok(FileChain { chain, per_byte })
 }

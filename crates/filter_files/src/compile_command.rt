@@ -3,13 +3,13 @@
 ghost use Rattle.std.specs.Prelude.{◌≡◌, ◌≢◌, All, IfErr, IfOk, IfSome};
 ghost use Rattle.filter_files.specs.Prelude.{reads_left, source_of, TellsOfReader, TellsOfWriter, Writes, WritesText, IsCompileOutput, IsOutputFront};
 ghost use Rattle.filter_files.specs.Settings.{IsUsed};
-ghost use Rattle.module_tools.specs.declared.ended.Ended.TheVariants as ended;
+ghost use Rattle.module_commands.specs.declared.ended.Ended.TheVariants as ended;
 
 use crate::compiling::{FilterFault, FilterRead, compile_text};
 use crate::settings::ParamSetting;
 use author_compile::Compiled;
 use byte_streams::{CountedSource, READS, Sink, Source};
-use module_tools::{CommandOutput, Ended, PlayFault, read_all, write_text};
+use module_commands::{CommandOutput, Ended, PlayFault, read_all, write_text};
 use std::alloc::{AllocError, Global};
 
 /// The line of a fault.

@@ -3,6 +3,7 @@
 ghost use Rattle.std.specs.Prelude.{◌≡◌, ◌≢◌, None, true, IfErr, IfOk, IfSome};
 ghost use Rattle.filter_files.specs.Prelude.{reads_left, source_of, TellsOfReader, IsFaultOf, TellsInternal, internal_line, place_line};
 ghost use Rattle.filter_files.specs.FilterReads.{IsFilterRead, SetsAll};
+ghost use Rattle.filter_files.specs.Settings.{KeepsWords};
 
 use crate::notes::{put_figures, put_pointed};
 use crate::settings::{ParamSetting, set_params};
@@ -13,8 +14,8 @@ use author_text::tree::Filter;
 use author_text::{Refusal, place_in, read_source, resolve_source};
 use byte_streams::{CountedSource, Source};
 use life_check::CheckRefusal;
+use module_commands::{PlayFault, read_all};
 use module_lang::AsmRefusal;
-use module_tools::{PlayFault, read_all};
 use script_text::{put_asm_fault, put_refused_at};
 use std::alloc::{AllocError, Global};
 
@@ -165,7 +166,8 @@ fn compiled(
     }
 }
 
-/// A text is compiled, with the params that are set for it. Where the filter `is_alone`, each setting must be for it.
+/// Compiles a text, with the params that are set for it. Where the filter `is_alone`, each setting must be for it. Figures of the module, and
+/// the source line of a fault, are added to the notes. `AllocError`: there was no memory for the filter, the module or the line.
 #[tactic(auto, using(crate::proofs::SetLaws::sets_all))]
 pub fn compile_text(
     alloc: Global,
@@ -176,6 +178,7 @@ pub fn compile_text(
 ) -> Result<FilterRead, AllocError>
     ensures ok { IfOk result (IsFilterRead text.now) }
     ensures set { IfOk result (λ r. is_alone ≡ true → SetsAll r settings.new) }
+    ensures words { KeepsWords settings.old settings.new }
 {
     let mut source = match read_source(alloc, text) {
         Ok(source) => source,

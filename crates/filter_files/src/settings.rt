@@ -2,7 +2,7 @@
 
 ghost use Rattle.std.specs.Prelude.{◌≡◌, ◌++◌, ◌∷◌, All, IfNone, IfOk, IfSome, None, false, true};
 ghost use Rattle.filter_files.specs.Prelude.{TellsSetting};
-ghost use Rattle.filter_files.specs.Settings.{IsUsed, setting_word};
+ghost use Rattle.filter_files.specs.Settings.{IsUsed, KeepsWords, setting_word};
 
 use crate::compiling::FilterFault;
 use author_text::source::Source;
@@ -65,6 +65,19 @@ pub fn setting_of(word: &[u8]) -> Option<ParamSetting<'_>>
     }
 }
 
+/// What is told of a word that says no setting.
+pub fn no_setting(alloc: Global, word: &[u8]) -> Result<FilterFault, AllocError>
+    ensures { IfOk result (λ f. (f.place ≡ None) × TellsSetting f.line.items) }
+{
+    let setting = ParamSetting {
+        filter: None,
+        param: word,
+        value: b"",
+        is_used: false,
+    };
+    told_setting(alloc, &setting, "NAME=VALUE is due")
+}
+
 /// Whether it is for filters of this name.
 fn is_for(setting: &ParamSetting<'_>, filter: &[u8]) -> bool {
     match setting.filter {
@@ -109,7 +122,8 @@ fn set_one(
     source: &mut Source<'_>,
     setting: &mut ParamSetting<'_>,
 ) -> Result<Option<FilterFault>, AllocError>
-    ensures { IfOk result (λ o. IfSome o (λ f. (f.place ≡ None) × TellsSetting f.line.items)) }
+    ensures told { IfOk result (λ o. IfSome o (λ f. (f.place ≡ None) × TellsSetting f.line.items)) }
+    ensures word { setting_word setting.new ≡ setting_word setting.old }
 {
     if !is_for(setting, source.name) {
         return Ok(None);
@@ -133,7 +147,8 @@ fn set_each(
     source: &mut Source<'_>,
     settings: &mut [ParamSetting<'_>],
 ) -> Result<Option<FilterFault>, AllocError>
-    ensures { IfOk result (λ o. IfSome o (λ f. (f.place ≡ None) × TellsSetting f.line.items)) }
+    ensures told { IfOk result (λ o. IfSome o (λ f. (f.place ≡ None) × TellsSetting f.line.items)) }
+    ensures words { KeepsWords settings.old settings.new }
 {
     for setting in settings.iter_mut() {
         if let Some(fault) = set_one(alloc, source, setting)? {
@@ -153,6 +168,7 @@ pub fn set_params(
 ) -> Result<Option<FilterFault>, AllocError>
     ensures told { IfOk result (λ o. IfSome o (λ f. (f.place ≡ None) × TellsSetting f.line.items)) }
     ensures used { IfOk result (λ o. IfNone o (is_alone ≡ true → All IsUsed settings.new)) }
+    ensures words { KeepsWords settings.old settings.new }
 {
     if let Some(fault) = set_each(alloc, source, settings)? {
         return Ok(Some(fault));

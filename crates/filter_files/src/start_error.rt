@@ -1,13 +1,13 @@
 //! Why a command does not start, and what is told of it.
 
-use byte_text::put_all;
-use module_tools::PlayFault;
+use byte_text::{TextWriter, put_all};
+use module_commands::PlayFault;
 use std::alloc::{AllocError, Global};
 use std::process::ExitCode;
 use std::{fmt, io};
 
 /// Why it is so, as far as it is known. It is told on the standard error.
-#[derive(Clone, Copy)]
+#[derive(Drop)]
 pub enum StartCause {
     /// The line on the standard output says all.
     Told,
@@ -15,6 +15,8 @@ pub enum StartCause {
     System(io::Error),
     /// These words say it.
     Words(&'static str),
+    /// These lines say which file it is, what is wrong with it, and where.
+    Lines(String),
 }
 
 impl StartCause {
@@ -27,12 +29,30 @@ impl StartCause {
     }
 }
 
+/// What is told of a file that is refused: its name and the line that refuses it, and notes below.
+pub fn named_lines(
+    alloc: Global,
+    name: &str,
+    line: &[u8],
+    notes: &[u8],
+) -> Result<StartCause, AllocError> {
+    let mut lines = Vec::from_slice(alloc, name.as_bytes())?;
+    lines.extend_from_slice(b": ")?;
+    lines.extend_from_slice(line)?;
+    lines.extend_from_slice(notes)?;
+    match String::from_utf8(lines) {
+        Ok(lines) => Ok(StartCause::Lines(lines)),
+        Err(_) => Ok(StartCause::Told),
+    }
+}
+
 impl fmt::Display for StartCause {
     fn fmt<W: fmt::Write>(&self, f: &mut fmt::Formatter<W>) -> fmt::Result {
         match self {
             StartCause::Told => Ok(()),
             StartCause::System(fault) => write!(f, "cause: {fault}\n"),
             StartCause::Words(words) => write!(f, "cause: {words}\n"),
+            StartCause::Lines(lines) => write!(f, "{lines}"),
         }
     }
 }
@@ -74,7 +94,7 @@ pub fn cannot_read(alloc: Global, name: &str, cause: StartCause) -> StartError {
 }
 
 fn is_put<R: Print>(rt: &R, line: &[u8]) -> bool {
-    put_all(&mut io::writer(rt), line).is_ok()
+    put_all(&mut TextWriter::new(io::writer(rt)), line).is_ok()
 }
 
 fn is_told<R: Print>(rt: &R, fault: PlayFault) -> bool {
@@ -82,7 +102,7 @@ fn is_told<R: Print>(rt: &R, fault: PlayFault) -> bool {
 }
 
 /// Ends with a line on the standard output and its cause on the standard error, or with a line there on a fault of the standard output.
-pub fn tell_stop<R: Print + Eprint>(rt: &R, stop: StartError) -> ExitCode {
+pub fn write_stop<R: Print + Eprint>(rt: &R, stop: StartError) -> ExitCode {
     let (told, cause) = match stop {
         StartError::Told(line, cause) => (is_put(rt, line.as_slice()), cause),
         StartError::NoMemory => (is_told(rt, PlayFault::NoMemory), StartCause::Told),

@@ -3,8 +3,9 @@
 use byte_streams::StdSink;
 use clap::Error;
 use clap::error::ErrorKind;
-use module_tools::{Ended, PlayFault, write_text};
+use module_commands::{Ended, PlayFault, write_text};
 use std::io;
+use std::io::IsTerminal;
 use std::process::ExitCode;
 
 /// Tells that a line cannot be written.
@@ -61,8 +62,16 @@ pub fn end_unset(rt: &HostRuntime, word: &str) -> ExitCode {
 }
 
 /// Tells what is of use beside an answer.
-pub fn tell_notes(rt: &HostRuntime, notes: &[u8]) {
+pub fn write_notes(rt: &HostRuntime, notes: &[u8]) {
     let _ = write_text(&mut StdSink::new(rt.stderr()), notes);
+}
+
+/// Tells the line that refuses a file on the standard error too, with the file's name, where the standard output is no terminal and so may be a file.
+pub fn write_named(rt: &HostRuntime, file: &str, line: &[u8]) {
+    if !rt.stdout().is_terminal() {
+        let _ = rt.eprint(format_args!("{file}: "));
+        write_notes(rt, line);
+    }
 }
 
 /// Ends with the line that tells why a filter or a setting is refused, and with notes.
@@ -72,6 +81,6 @@ pub fn end_refused(rt: &HostRuntime, line: &[u8], notes: &[u8]) -> ExitCode {
         Ok(()) => Ok(Ended::Refused),
         Err(fault) => Err(fault),
     };
-    tell_notes(rt, notes);
+    write_notes(rt, notes);
     end(rt, ended, "", None)
 }

@@ -5,9 +5,9 @@ use crate::settings::{TaskError, settings_of};
 use body_filter::{BodyEnd, CheckedChain, Limits, run_filter};
 use byte_streams::{CountedSource, StdSink, StdSource};
 use clap::ArgMatches;
-use filter_files::{ParamSetting, read_chain, tell_stop};
+use filter_files::{FileChain, ParamSetting, read_chain, write_stop};
 use http_serve::failure_hint;
-use module_tools::PlayFault;
+use module_commands::PlayFault;
 use std::alloc::Global;
 use std::process::ExitCode;
 
@@ -72,7 +72,7 @@ pub fn filter_input(rt: &HostRuntime, options: FilterOptions<'_>) -> ExitCode {
         chain,
     } = options;
     match read_chain(rt, chain.as_slice(), settings.as_mut_slice()) {
-        Ok(chain) => filter_through(rt, chain, budget),
-        Err(stop) => tell_stop(rt, stop),
+        Ok(FileChain { chain, per_byte: _ }) => filter_through(rt, chain, budget),
+        Err(stop) => write_stop(rt, stop),
     }
 }

@@ -1,9 +1,9 @@
 //! Filters in the language for authors: they are compiled, and what is refused of them is told.
 
-use crate::endings::{end, end_refused, tell_notes};
+use crate::endings::{end, end_refused, write_named, write_notes};
 use byte_streams::{CountedSource, StdSink};
 use filter_files::{FilterFault, ParamSetting, compile_output, run_compile, unused_setting};
-use module_tools::{CommandOutput, Ended, NamedFile, PlayFault};
+use module_commands::{CommandOutput, Ended, NamedFile, PlayFault, RecordedWriter};
 use std::alloc::AllocError;
 use std::process::ExitCode;
 
@@ -39,6 +39,7 @@ pub fn module_text(
             },
         ) => {
             let notes = if helps { notes.as_slice() } else { &[] };
+            write_named(rt, file, text.as_slice());
             Err(end_refused(rt, text.as_slice(), notes))
         }
         Err(fault) => Err(end(rt, Err(fault), file, reader.source().reader.fault())),
@@ -52,11 +53,15 @@ pub fn compile_file(
     helps: bool,
 ) -> ExitCode {
     let mut reader = CountedSource::from_reader(NamedFile::new(rt, file));
-    let mut writer = StdSink::new(rt.stdout());
+    let mut writer = StdSink::new(RecordedWriter::new(rt.alloc(), rt.stdout(), true));
     let mut notes = Vec::new(rt.alloc());
     let compiled = run_compile(rt.alloc(), &mut reader, settings, &mut writer, &mut notes);
-    if helps || !matches!(compiled, Ok(Ended::Refused)) {
-        tell_notes(rt, notes.as_slice());
+    let is_refused = matches!(compiled, Ok(Ended::Refused));
+    if is_refused {
+        write_named(rt, file, writer.writer.taken());
+    }
+    if helps || !is_refused {
+        write_notes(rt, notes.as_slice());
     }
     end(rt, compiled, file, reader.source().reader.fault())
 }

@@ -16,7 +16,7 @@ use filter_files::{ParamSetting, is_filter_name, run_new_filter};
 use filters::{compile_file, module_text, unless_unused};
 use http_serve::run_serve;
 use life_explain::{explain_certify, explain_check, explain_play, explain_upgrade};
-use module_tools::{
+use module_commands::{
     CertTask, Ended, NamedFile, PlayFault, Recorded, RecordedWriter, run_assemble, run_certify,
     run_check, run_new, run_upgrade,
 };
@@ -39,7 +39,7 @@ fn tells_help(rt: &HostRuntime, asked: bool) -> bool {
     asked || rt.stderr().is_terminal()
 }
 
-fn tell_help(rt: &HostRuntime, text: Result<String, AllocError>) {
+fn write_help(rt: &HostRuntime, text: Result<String, AllocError>) {
     let _ = match text {
         Ok(text) => eprint!(rt; "{text}"),
         Err(AllocError) => rt.eprintln(PlayFault::NoMemory),
@@ -62,7 +62,7 @@ fn certify<T: Read + Drop>(
     let certified = run_certify(rt.alloc(), &mut reader, &mut writer, is_slim);
     if helps && is_refused(&certified) {
         let given = reader.source().reader.given();
-        tell_help(rt, explain_certify(rt.alloc(), given));
+        write_help(rt, explain_certify(rt.alloc(), given));
     }
     certified
 }
@@ -104,7 +104,7 @@ fn play_script(rt: &HostRuntime, asked: bool) -> ExitCode {
     let played = run_play(rt.alloc(), &mut reader, &mut writer);
     if helps && played.is_ok() {
         let given = reader.source().reader.given();
-        tell_help(rt, explain_play(rt.alloc(), given, writer.writer.taken()));
+        write_help(rt, explain_play(rt.alloc(), given, writer.writer.taken()));
     }
     end(rt, played, "standard input", None)
 }
@@ -127,7 +127,7 @@ fn ask_with_cert<T: Read + Drop, C: Read + Drop>(
     if helps && is_refused(&ended) {
         let given = reader.source().reader.given();
         let cert_given = certs.source().reader.given();
-        tell_help(rt, explained(rt, task, given, cert_given));
+        write_help(rt, explained(rt, task, given, cert_given));
     }
     ended
 }

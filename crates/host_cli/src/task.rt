@@ -7,7 +7,7 @@ use crate::words::program;
 use clap::ArgMatches;
 use filter_files::ParamSetting;
 use http_serve::ServeOptions;
-use module_tools::CertTask;
+use module_commands::CertTask;
 use std::alloc::Global;
 
 /// What the words of the command line ask for.

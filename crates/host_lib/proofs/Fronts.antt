@@ -9,7 +9,7 @@ use Rattle.std.proofs.lemmas.Option.{slice_get_within, slice_get-get_or, get_or_
 use Rattle.script_text.specs.Heads.{ScriptPart, seen_part}
 use Rattle.script_text.specs.declared.part.ScriptModule.{ScriptModule}
 use Rattle.host_lib.specs.declared.loading.TextLengths.{TextLengths}
-use Rattle.host_lib.specs.Texts.{AreFront, FitTexts, IsPartOf, IsTextsAt, both_of, start_of, texts_from}
+use Rattle.host_lib.specs.Texts.{AreFront, FitTexts, IsPartOf, IsTextsAt, PartText, both_of, start_of, texts_from}
 
 -- one of these, or the last
 pub get_split : {X : Type 0} (xs : List X) (y : X) (i : ℕ) (z : X) → slice_get (xs ++ y ∷ []) i ≡ Some z → (slice_get xs i ≡ Some z) ⊎ ((i ≡ length xs) × (y ≡ z))
@@ -20,12 +20,12 @@ get_split (x ∷ xs) y (suc i) z e = elim (get_split xs y i z e) [ inl there ↦
 
 -- One more is read.
 pub front_more : (texts : List ℕ) (lengths : List TextLengths) (parts : List ScriptPart) (part : ScriptPart) → AreFront texts lengths parts
-    → ((pair : List ℕ × List ℕ) × IsTextsAt texts lengths (length parts) pair × IsPartOf pair part) → AreFront texts lengths (parts ++ part ∷ [])
+    → ((t : PartText) × IsTextsAt texts lengths (length parts) t × IsPartOf t part) → AreFront texts lengths (parts ++ part ∷ [])
 front_more texts lengths parts part front last = record {
   each = λ k other e. elim (get_split parts part k other e) [
     | inl there ↦ front.each k other there
     | inr same ↦ (
-        let P : ℕ → ScriptPart → Type 0 = λ n x. (pair : List ℕ × List ℕ) × IsTextsAt texts lengths n pair × IsPartOf pair x in
+        let P : ℕ → ScriptPart → Type 0 = λ n x. (t : PartText) × IsTextsAt texts lengths n t × IsPartOf t x in
         subst (λ (n : ℕ). P n other) (sym same.0) (subst (P (length parts)) same.1 last))
   ];
 }
@@ -33,23 +33,23 @@ front_more texts lengths parts part front last = record {
 pub seen_count : (parts : List ScriptModule) (k : ℕ) → length parts ≡ k → length (map seen_part parts) ≡ k
 seen_count parts k e = length-map parts seen_part ∙ e
 
-pub front_pushed : (texts : List ℕ) (lengths : List TextLengths) (old new : List ScriptModule) (x : ScriptModule) (k : ℕ) (pair : List ℕ × List ℕ) → new ≡ old ++ x ∷ [] → length old ≡ k
-    → AreFront texts lengths (map seen_part old) → IsTextsAt texts lengths k pair → IsPartOf pair (seen_part x) → AreFront texts lengths (map seen_part new)
-front_pushed texts lengths old new x k pair is count front at read = (
-    let more = front_more texts lengths (map seen_part old) (seen_part x) front (pair, subst (λ (n : ℕ). IsTextsAt texts lengths n pair) (sym (seen_count old k count)) at, read) in
+pub front_pushed : (texts : List ℕ) (lengths : List TextLengths) (old new : List ScriptModule) (x : ScriptModule) (k : ℕ) (t : PartText) → new ≡ old ++ x ∷ [] → length old ≡ k
+    → AreFront texts lengths (map seen_part old) → IsTextsAt texts lengths k t → IsPartOf t (seen_part x) → AreFront texts lengths (map seen_part new)
+front_pushed texts lengths old new x k t is count front at read = (
+    let more = front_more texts lengths (map seen_part old) (seen_part x) front (t, subst (λ (n : ℕ). IsTextsAt texts lengths n t) (sym (seen_count old k count)) at, read) in
     let e : map seen_part new ≡ map seen_part old ++ seen_part x ∷ [] = ap (map seen_part) is ∙ map-append seen_part old (x ∷ []) in
     subst (AreFront texts lengths) (sym e) more)
 
 module _ (lengths : List TextLengths) (k : ℕ) (each : TextLengths) (at : slice_get lengths k ≡ Some each) where
-  pub start_more : start_of lengths (k + 1) ≡ start_of lengths k + (each.module + each.certificate)
+  pub start_more : start_of lengths (k + 1) ≡ start_of lengths k + (each.text + each.certificate)
   start_more = (let e = sum_by_more both_of lengths k each (slice_get_within lengths k each at) in let f = get_or_from_slice_get lengths k each each at in
       subst (λ (x : TextLengths). start_of lengths (k + 1) ≡ start_of lengths k + both_of x) f e)
 
   -- both texts lie within all of them
-  pub start_fits : (texts : List ℕ) → FitTexts texts lengths → start_of lengths k + (each.module + each.certificate) ≤ length texts
+  pub start_fits : (texts : List ℕ) → FitTexts texts lengths → start_of lengths k + (each.text + each.certificate) ≤ length texts
   start_fits texts fit = (let e = start_more in let most = sum_by-take-le both_of lengths (k + 1) in omega (arith, e, most, fit))
 
-  pub total_more : start_of lengths k + (each.module + each.certificate) ≤ sum_by both_of lengths
+  pub total_more : start_of lengths k + (each.text + each.certificate) ≤ sum_by both_of lengths
   total_more = (let e = start_more in let most = sum_by-take-le both_of lengths (k + 1) in omega (arith, e, most))
 
 module _ (texts : List ℕ) (lengths : List TextLengths) (k : ℕ) (d : TextLengths) (within : k < length lengths) (rest : List ℕ) (is : rest ≡ drop (start_of lengths k) texts) where

@@ -4,3 +4,4 @@ mod Refused
 mod Slots
 mod Steps
 mod Values
+mod Words

@@ -1,15 +1,16 @@
 -- What each call of C does to the session that its handle holds.
-use Rattle.std.specs.Prelude.{◌≡◌, ℕ, Bool, true, false, List, Option, Some, None, Result}
+use Rattle.std.specs.Prelude.{◌≡◌, ℕ, Bool, true, false, List, ◌++◌, length, take, drop, Option, Some, None, Result}
 use Rattle.std.specs.Global.{Vec}
 use Rattle.run_model.specs.declared.event.Event.{Event}
 use Rattle.run_model.specs.declared.event.Event.TheVariants.{Begin, Bring, Close, End, Open}
 use Rattle.run_model.specs.declared.event.Refusal.{Refusal}
 use Rattle.run_model.specs.declared.event.Stepped.{Stepped}
-use Rattle.ring_run.specs.declared.labels_run.LabelsRun.{LabelsRun}
+use Rattle.interp_exec.specs.declared.labels_run.LabelsRun.{LabelsRun}
 use Rattle.filter_chain.specs.Hosting.{close_answer, done_answer, open_answer}
 use Rattle.host_lib.specs.Adding.{TellsPiece}
-use Rattle.host_lib.specs.Codes.{close_code, done_code, number_in, only, open_code, piece_code, run_code, told_of}
+use Rattle.host_lib.specs.Codes.{close_code, done_code, message_of, number_in, only, open_code, piece_code, run_code, told_of}
 use Rattle.host_lib.specs.Does.{Does, DropsPieces, KeepsPieces, RunsUpTo, pieces_of}
+use Rattle.host_lib.specs.Filters.{AreSet}
 use Rattle.host_lib.specs.Making.{IsNewSession}
 use Rattle.host_lib.specs.Output.{TellsOutput}
 use Rattle.host_lib.specs.Texts.{IsChainRefused}
@@ -67,13 +68,27 @@ DoesOutput number old new n s t = TellsOutput number old new n s t × KeepsPiece
 abbrev pub TellsNothing : List ℕ → List ℕ → ℕ → Type 0
 TellsNothing old new n = (n ≡ 0) × (new ≡ old)
 
--- The handle held none. A session is made of the texts; or it holds none, and is told why.
-abbrev pub MakesAnew : List ℕ → List TextLengths → ℕ → Option HostSession → LoadTold → Bool → Type 0
-MakesAnew texts lengths budget (Some s) told true = IsNewSession texts lengths budget s × (told ≡ only 0)
-MakesAnew texts lengths budget None told false = (e : LoadRefusal) × IsChainRefused texts lengths e × (told ≡ told_of e)
-MakesAnew texts lengths budget new told made = ⊥
+-- As much of a message as there is room for stands at the front of a buffer; the rest is as it was.
+abbrev pub PutsFront : List ℕ → List ℕ → List ℕ → Type 0
+PutsFront message old new = new ≡ take (length old) message ++ drop (length message) old
+
+-- what is told: numbers, and a buffer before the call and behind it
+abbrev pub LoadReport : Type 0
+LoadReport = LoadTold × List ℕ × List ℕ
+
+abbrev pub ReportsTaken : LoadReport → Type 0
+ReportsTaken report = (report.0 ≡ only 0) × (report.2 ≡ report.1)
+
+abbrev pub ReportsWhy : LoadRefusal → LoadReport → Type 0
+ReportsWhy e report = (report.0 ≡ told_of e) × PutsFront (message_of e) report.1 report.2
+
+-- The handle held none. A session is made of the texts, in whose filters each setting was set; or it holds none, and is told why.
+abbrev pub MakesAnew : List ℕ → List TextLengths → List ℕ → List ℕ → ℕ → Option HostSession → LoadReport → Bool → Type 0
+MakesAnew texts lengths words word_lengths budget (Some s) report true = IsNewSession texts lengths budget s × AreSet words word_lengths × ReportsTaken report
+MakesAnew texts lengths words word_lengths budget None report false = (e : LoadRefusal) × IsChainRefused texts lengths words word_lengths e × ReportsWhy e report
+MakesAnew texts lengths words word_lengths budget new report made = ⊥
 
 -- A handle that holds a session already holds it afterwards.
-abbrev pub DoesNew : List ℕ → List TextLengths → ℕ → Option HostSession → Option HostSession → LoadTold → Bool → Type 0
-DoesNew texts lengths budget None new told made = MakesAnew texts lengths budget new told made
-DoesNew texts lengths budget (Some s) new told made = (new ≡ Some s) × (made ≡ false) × (told ≡ only 6)
+abbrev pub DoesNew : List ℕ → List TextLengths → List ℕ → List ℕ → ℕ → Option HostSession → Option HostSession → LoadReport → Bool → Type 0
+DoesNew texts lengths words word_lengths budget None new report made = MakesAnew texts lengths words word_lengths budget new report made
+DoesNew texts lengths words word_lengths budget (Some s) new report made = (new ≡ Some s) × (made ≡ false) × (report.0 ≡ only 6) × (report.2 ≡ report.1)

@@ -1,5 +1,5 @@
 -- The numbers by which C is told: those of `cidawru.h`.
-use Rattle.std.specs.Prelude.{ℕ, Option, Some, None, Result, Ok, Err}
+use Rattle.std.specs.Prelude.{ℕ, List, [], length, Option, Some, None, Result, Ok, Err}
 use Rattle.std.specs.Global.{Vec}
 use Rattle.module_code.specs.declared.instr.Status.TheVariants as status
 use Rattle.module_lang.specs.Codes.{code_number}
@@ -14,7 +14,9 @@ use Rattle.run_model.specs.declared.event.Cause.{Cause}
 use Rattle.run_model.specs.declared.event.Cause.TheVariants as cause
 use Rattle.run_model.specs.declared.event.Stepped.{Stepped}
 use Rattle.run_model.specs.declared.event.Stepped.TheVariants as stepped
-use Rattle.ring_run.specs.declared.labels_run.LabelsRun.{LabelsRun}
+use Rattle.interp_exec.specs.declared.labels_run.LabelsRun.{LabelsRun}
+use Rattle.author_text.specs.declared.place.Place.{Place}
+use Rattle.filter_files.specs.declared.compiling.FilterFault.{FilterFault}
 use Rattle.host_lib.specs.declared.pieces.PieceRefusal.{PieceRefusal}
 use Rattle.host_lib.specs.declared.pieces.PieceRefusal.TheVariants as piece
 use Rattle.host_lib.specs.declared.loading.LoadRefusal.{LoadRefusal}
@@ -92,12 +94,30 @@ rule_code rule.Request = 15
 
 -- what is told alone
 abbrev pub only : ℕ → LoadTold
-only what = record { what = what; code = 0; «module» = 0; place = 0 }
+only what = record { what = what; code = 0; «module» = 0; place = 0; column = 0; message = 0 }
+
+-- a line and a column; 0 and 0 where there is no place
+abbrev pub told_place : Option Place → ℕ × ℕ
+told_place None = (0, 0)
+told_place (Some p) = (p.line, p.column)
+
+abbrev pub told_of_filter : ℕ → FilterFault → LoadTold
+told_of_filter index fault =
+    record { what = 7; code = 0; «module» = index; place = (told_place fault.place).0; column = (told_place fault.place).1; message = length fault.line.items }
 
 -- what is told of why a chain is not taken
 abbrev pub told_of : LoadRefusal → LoadTold
 told_of load.NoChain = only 1
 told_of load.NoMemory = only 2
-told_of (load.NoModule index line code) = record { what = 3; code = code_number code; «module» = index; place = line }
-told_of (load.NoCert index line code) = record { what = 4; code = cert_code_number code; «module» = index; place = line }
-told_of (load.NotSafe index why) = record { what = 5; code = rule_code why.rule; «module» = index; place = why.pc }
+told_of (load.NoModule index line code) = record { what = 3; code = code_number code; «module» = index; place = line; column = 0; message = 0 }
+told_of (load.NoCert index line code) = record { what = 4; code = cert_code_number code; «module» = index; place = line; column = 0; message = 0 }
+told_of (load.NotSafe index why) = record { what = 5; code = rule_code why.rule; «module» = index; place = why.pc; column = 0; message = 0 }
+told_of (load.NoFilter index fault) = told_of_filter index fault
+told_of (load.NoSetting fault) = record { what = 8; code = 0; «module» = 0; place = 0; column = 0; message = length fault.line.items }
+told_of (load.NoKind index) = record { what = 9; code = 0; «module» = index; place = 0; column = 0; message = 0 }
+
+-- what is said in words: of filters and settings alone
+abbrev pub message_of : LoadRefusal → List ℕ
+message_of (load.NoFilter index fault) = fault.line.items
+message_of (load.NoSetting fault) = fault.line.items
+message_of e = []

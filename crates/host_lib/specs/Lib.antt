@@ -5,6 +5,7 @@ pub mod Kinds
 pub mod Does
 pub mod Adding
 pub mod Output
+pub mod Filters
 pub mod Texts
 pub mod Reading
 pub mod Making

@@ -8,10 +8,12 @@
 ghost use Rattle.std.specs.Prelude.{◌≡◌, ◌≢◌, IfErr, IfOk, None};
 ghost use Rattle.host_lib.specs.Awake.{IsAwake, IsReadyHandle};
 ghost use Rattle.host_lib.specs.Making.{IsNewSession};
+ghost use Rattle.host_lib.specs.Filters.{AreSet};
 ghost use Rattle.host_lib.specs.Texts.{IsChainRefused};
 ghost use Rattle.host_lib.specs.Calls.{DoesPiece, DoesBegin, DoesBring, DoesClose, DoesEnd, IsNoSession, DoesNew, OnSession, DoesOpen, DoesRun, DoesOutput, TellsNothing};
 
 mod answers;
+mod filter_texts;
 mod handle;
 mod loading;
 mod loose;
@@ -24,51 +26,59 @@ use handle::Handle;
 use loading::{LoadRefusal, TextLengths};
 use session::HostSession;
 use std::alloc::Global;
-use told::LoadTold;
+use told::{LoadTold, message, put_message};
 
-/// A session of the chain of these texts, in a box.
+/// A session of the chain of these texts, with the settings of these words, in a box.
 fn made(
     alloc: Global,
     texts: &[u8],
     lengths: &[TextLengths],
+    words: &[u8],
+    word_lengths: &[usize],
     budget: u64,
 ) -> Result<Box<HostSession>, LoadRefusal>
     ensures made { IfOk result (λ b. IsNewSession texts.now lengths.now budget b.value) }
-    ensures refused { IfErr result (IsChainRefused texts.now lengths.now) }
+    ensures set { IfOk result (λ _. AreSet words.now word_lengths.now) }
+    ensures refused { IfErr result (IsChainRefused texts.now lengths.now words.now word_lengths.now) }
     ensures awake { IfOk result (λ b. IsAwake b.value) }
 {
-    let session = HostSession::new(alloc, texts, lengths, budget)?;
+    let session = HostSession::new(alloc, texts, lengths, words, word_lengths, budget)?;
     match Box::new(alloc, session) {
         Ok(session) => Ok(session),
         Err(_) => Err(LoadRefusal::NoMemory),
     }
 }
 
-/// Makes a session of the chain whose texts stand one after another. Where they are refused the handle holds what it held.
+/// Makes a session of the chain whose texts stand one after another, and sets params of its filters, as words that stand one after another say.
+/// Where it is refused the handle holds what it held, and the buffer has the front of the message, if there is one.
 #[unsafe(no_mangle)]
 pub extern "C" fn cidawru_new(
     alloc: Global,
     handle: &mut Handle,
     texts: &[u8],
     lengths: &[TextLengths],
+    words: &[u8],
+    word_lengths: &[usize],
     budget: u64,
     told: &mut LoadTold,
+    buffer: &mut [u8],
 ) -> bool
     requires { IsReadyHandle handle.old }
     ensures ready { IsReadyHandle handle.new }
-    ensures makes { DoesNew texts.now lengths.now budget handle.old.slot.value handle.new.slot.value told.new result }
+    ensures makes { DoesNew texts.now lengths.now words.now word_lengths.now budget handle.old.slot.value handle.new.slot.value (told.new, buffer.old, buffer.new) result }
 {
     if handle.held {
         *told = LoadTold::held();
         return false;
     }
-    match made(alloc, texts, lengths, budget) {
+    match made(alloc, texts, lengths, words, word_lengths, budget) {
         Ok(session) => {
             handle.put(session);
             *told = LoadTold::taken();
             true
         }
         Err(why) => {
+            put_message(message(&why), buffer);
             *told = LoadTold::why(why);
             false
         }

@@ -4,9 +4,13 @@ ghost use Rattle.std.specs.Prelude.{◌≡◌, ◌+◌, ◌≤◌, ◌↔◌, If
 ghost use Rattle.life_check.specs.ChainTheorem.{ChainNeverFaults};
 ghost use Rattle.module_lang.specs.FirstFault.{IsReadAs};
 ghost use Rattle.script_text.specs.Heads.{seen_part};
+ghost use Rattle.filter_files.specs.Settings.{KeepsWords};
+ghost use Rattle.host_lib.specs.Filters.{AreSet, FitWords};
 ghost use Rattle.host_lib.specs.Texts.{AreTextParts, FitTexts, IsCertOf, IsChainOf, IsPartOf, IsRefusedAt, IsChainRefused, IsTextRefused, texts_from};
 ghost use Rattle.host_lib.specs.Reading.{IsCertRefused, IsModuleRefused};
 
+use crate::filter_texts::{each_set, filter_part, fit_words, settings_of};
+use filter_files::{FilterFault, ParamSetting};
 use life_cert::{CertCode, CertRefusal, read_cert};
 use life_check::{Cert, CheckRefusal, CheckedChain};
 use module_code::Module;
@@ -17,20 +21,27 @@ use std::alloc::Global;
 /// How many modules a chain has at most.
 const MOST: usize = 16;
 
-/// How long the texts of a module and of its certificate are.
+/// The kind of a text: that of a module.
+const MODULE: u32 = 0;
+/// That of a filter in the language for authors.
+const FILTER: u32 = 1;
+
+/// What a text of a chain is, and how long it and that of its certificate are.
 #[repr(C)]
 #[derive(Clone, Copy)]
 pub struct TextLengths {
-    /// The module's.
-    pub module: usize,
-    /// The certificate's; 0 where one is to be made.
+    /// The module's, or the filter's.
+    pub text: usize,
+    /// The certificate's; 0 where one is to be made. A filter's is not read: the compiler makes one.
     pub certificate: usize,
+    /// 0 for a module, 1 for a filter.
+    pub kind: u32,
 }
 
-/// Why a chain is not taken. A module is named by its place, from 0 on, and a line by its number, from 1 on.
-#[derive(Clone, Copy)]
+/// Why a chain is not taken. A text is named by its place, from 0 on, and a line by its number, from 1 on.
+#[derive(Drop)]
 pub enum LoadRefusal {
-    /// No module, or too many; or the lengths are not together that of the texts.
+    /// No module, or too many; or the lengths are not together that of the texts, or of the settings.
     NoChain,
     /// There is no memory.
     NoMemory,
@@ -51,6 +62,19 @@ pub enum LoadRefusal {
         index: usize,
         refusal: CheckRefusal,
     },
+    /// A filter is not compiled: for a mistake in its text, the value of a setting, or an internal error.
+    NoFilter {
+        index: usize,
+        fault: FilterFault,
+    },
+    /// A word is no setting, or one that no filter has a `param` for.
+    NoSetting {
+        fault: FilterFault,
+    },
+    /// A text is of no kind.
+    NoKind {
+        index: usize,
+    },
 }
 
 /// Whether the lengths are together that of the texts.
@@ -59,10 +83,10 @@ fn fit(texts: &[u8], lengths: &[TextLengths]) -> bool
 {
     let mut rest = texts.len();
     for each in lengths {
-        if rest < each.module || rest - each.module < each.certificate {
+        if rest < each.text || rest - each.text < each.certificate {
             return false;
         }
-        rest = rest - each.module - each.certificate;
+        rest = rest - each.text - each.certificate;
     }
     rest == 0
 }
@@ -111,9 +135,14 @@ fn certified(
 }
 
 /// A module of the chain, with its certificate.
-fn part(alloc: Global, index: usize, text: &[u8], cert: &[u8]) -> Result<ScriptModule, LoadRefusal>
-    ensures read { IfOk result (λ x. IsPartOf (text.now, cert.now) (seen_part x)) }
-    ensures refused { IfErr result (IsRefusedAt index (text.now, cert.now)) }
+fn module_part(
+    alloc: Global,
+    index: usize,
+    text: &[u8],
+    cert: &[u8],
+) -> Result<ScriptModule, LoadRefusal>
+    ensures read { IfOk result (λ x. IsPartOf (0, text.now, cert.now) (seen_part x)) }
+    ensures refused { IfErr result (IsRefusedAt index (0, text.now, cert.now)) }
 {
     match module(alloc, index, text) {
         Ok(code) => certified(alloc, index, code, cert),
@@ -121,46 +150,70 @@ fn part(alloc: Global, index: usize, text: &[u8], cert: &[u8]) -> Result<ScriptM
     }
 }
 
-/// The module at the front of the texts that are left, with its certificate.
+/// A module of the chain, or of a filter, with its certificate.
+fn part(
+    alloc: Global,
+    index: usize,
+    kind: u32,
+    text: &[u8],
+    cert: &[u8],
+    settings: &mut [ParamSetting<'_>],
+) -> Result<ScriptModule, LoadRefusal>
+    ensures read { IfOk result (λ x. IsPartOf (kind, text.now, cert.now) (seen_part x)) }
+    ensures refused { IfErr result (IsRefusedAt index (kind, text.now, cert.now)) }
+    ensures words { KeepsWords settings.old settings.new }
+{
+    match kind {
+        MODULE => module_part(alloc, index, text, cert),
+        FILTER => filter_part(alloc, index, text, settings),
+        _ => Err(LoadRefusal::NoKind { index }),
+    }
+}
+
+/// The module of the text at the front of those that are left, with its certificate.
 fn next_part(
     alloc: Global,
     index: usize,
     rest: &[u8],
     each: TextLengths,
+    settings: &mut [ParamSetting<'_>],
 ) -> Result<ScriptModule, LoadRefusal>
-    requires { each.module + each.certificate ≤ length rest.now }
+    requires { each.text + each.certificate ≤ length rest.now }
     ensures read { IfOk result (λ x. IsPartOf (texts_from rest.now each) (seen_part x)) }
     ensures refused { IfErr result (IsRefusedAt index (texts_from rest.now each)) }
+    ensures words { KeepsWords settings.old settings.new }
 {
-    let (text, behind) = rest.split_at(each.module);
+    let (text, behind) = rest.split_at(each.text);
     let (cert, _) = behind.split_at(each.certificate);
-    part(alloc, index, text, cert)
+    part(alloc, index, each.kind, text, cert, settings)
 }
 
 /// What is left of the texts behind a module and its certificate.
 fn behind(rest: &[u8], each: TextLengths) -> &[u8]
-    requires { each.module + each.certificate ≤ length rest.now }
-    ensures { result.now ≡ drop (each.module + each.certificate) rest.now }
+    requires { each.text + each.certificate ≤ length rest.now }
+    ensures { result.now ≡ drop (each.text + each.certificate) rest.now }
 {
-    let (_, behind) = rest.split_at(each.module);
+    let (_, behind) = rest.split_at(each.text);
     let (_, rest) = behind.split_at(each.certificate);
     rest
 }
 
-/// The modules of the chain, each with its certificate.
-pub(crate) fn parts(
+/// The modules of the chain, each with its certificate. Settings that a filter has a `param` for are set in it.
+fn parts(
     alloc: Global,
     texts: &[u8],
     lengths: &[TextLengths],
+    settings: &mut [ParamSetting<'_>],
 ) -> Result<Vec<ScriptModule>, LoadRefusal>
     requires { FitTexts texts.now lengths.now }
     ensures read { IfOk result (λ v. AreTextParts texts.now lengths.now (map seen_part v.items)) }
     ensures refused { IfErr result (IsTextRefused texts.now lengths.now) }
+    ensures words { KeepsWords settings.old settings.new }
 {
     let mut parts = Vec::new(alloc);
     let mut rest = texts;
     for (index, each) in lengths.iter().enumerate() {
-        let part = match next_part(alloc, index, rest, *each) {
+        let part = match next_part(alloc, index, rest, *each, settings) {
             Ok(part) => part,
             Err(refusal) => return Err(refusal),
         };
@@ -173,21 +226,49 @@ pub(crate) fn parts(
     Ok(parts)
 }
 
-/// The checked chain of texts, which stand one after another: a module, its certificate, the next module. All are read first; then
+/// The modules of the chain, in whose filters each setting was set.
+pub(crate) fn set_parts(
+    alloc: Global,
+    texts: &[u8],
+    lengths: &[TextLengths],
+    words: &[u8],
+    word_lengths: &[usize],
+) -> Result<Vec<ScriptModule>, LoadRefusal>
+    requires texts { FitTexts texts.now lengths.now }
+    requires words { FitWords words.now word_lengths.now }
+    ensures read { IfOk result (λ v. AreTextParts texts.now lengths.now (map seen_part v.items)) }
+    ensures set { IfOk result (λ _. AreSet words.now word_lengths.now) }
+    ensures refused { IfErr result (IsChainRefused texts.now lengths.now words.now word_lengths.now) }
+{
+    let mut settings = settings_of(alloc, words, word_lengths)?;
+    let parts = parts(alloc, texts, lengths, settings.as_mut_slice())?;
+    each_set(alloc, settings.as_slice())?;
+    Ok(parts)
+}
+
+/// The checked chain of texts, which stand one after another: a module or a filter, its certificate, the next one. First words are read as
+/// settings; then all texts, where filters are compiled, with the params that settings are for; then each setting must have been set; then
 /// certificates that are missing are made; then each module is checked. The first refusal of these is answered.
 pub(crate) fn chain(
     alloc: Global,
     texts: &[u8],
     lengths: &[TextLengths],
+    words: &[u8],
+    word_lengths: &[usize],
 ) -> Result<CheckedChain, LoadRefusal>
     ensures chain { IfOk result (IsChainOf texts.now lengths.now) }
-    ensures refused { IfErr result (IsChainRefused texts.now lengths.now) }
+    ensures set { IfOk result (λ _. AreSet words.now word_lengths.now) }
+    ensures refused { IfErr result (IsChainRefused texts.now lengths.now words.now word_lengths.now) }
     ensures safe { IfOk result (λ c. ChainNeverFaults c) }
 {
-    if lengths.is_empty() || lengths.len() > MOST || !fit(texts, lengths) {
+    if lengths.is_empty()
+        || lengths.len() > MOST
+        || !fit(texts, lengths)
+        || !fit_words(words, word_lengths)
+    {
         return Err(LoadRefusal::NoChain);
     }
-    let parts = parts(alloc, texts, lengths)?;
+    let parts = set_parts(alloc, texts, lengths, words, word_lengths)?;
     match accept_parts(alloc, parts) {
         Ok(Ok(chain)) => Ok(chain),
         Ok(Err(Refused { index, refusal })) => Err(LoadRefusal::NotSafe { index, refusal }),

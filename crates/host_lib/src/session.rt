@@ -11,6 +11,7 @@ ghost use Rattle.host_lib.specs.Does.{Does, DropsPieces, HasConnection, KeepsPie
 ghost use Rattle.host_lib.specs.Adding.{TellsPiece};
 ghost use Rattle.host_lib.specs.Output.{CopiesBytes, TellsOutput, bytes_in};
 ghost use Rattle.host_lib.specs.Making.{IsNewSession};
+ghost use Rattle.host_lib.specs.Filters.{AreSet};
 ghost use Rattle.host_lib.specs.Texts.{IsChainRefused};
 
 use crate::loading::{LoadRefusal, TextLengths, chain};
@@ -39,18 +40,21 @@ fn copy_into(bytes: &[u8], buffer: &mut [u8]) -> usize
 }
 
 impl HostSession {
-    /// A session of the chain that these texts are.
+    /// A session of the chain that these texts are, with the settings of these words.
     pub(crate) fn new(
         alloc: Global,
         texts: &[u8],
         lengths: &[TextLengths],
+        words: &[u8],
+        word_lengths: &[usize],
         budget: u64,
     ) -> Result<HostSession, LoadRefusal>
         ensures made { IfOk result (IsNewSession texts.now lengths.now budget) }
-        ensures refused { IfErr result (IsChainRefused texts.now lengths.now) }
+        ensures set { IfOk result (λ _. AreSet words.now word_lengths.now) }
+        ensures refused { IfErr result (IsChainRefused texts.now lengths.now words.now word_lengths.now) }
         ensures awake { IfOk result IsAwake }
     {
-        let chain = chain(alloc, texts, lengths)?;
+        let chain = chain(alloc, texts, lengths, words, word_lengths)?;
         match Host::checked(alloc, MemFiles::new(alloc), chain, Limits { budget }) {
             Ok(host) => Ok(HostSession {
                 alloc,

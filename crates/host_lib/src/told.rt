@@ -1,9 +1,12 @@
-//! Why a chain is not taken, as numbers: `struct cidawru_told` of `cidawru.h`.
+//! Why a chain is not taken, as numbers, `struct cidawru_told` of `cidawru.h`, and as a message.
 
 ghost use Rattle.std.specs.Prelude.{◌≡◌};
-ghost use Rattle.host_lib.specs.Codes.{fault_code, only, rule_code, told_of};
+ghost use Rattle.host_lib.specs.Codes.{fault_code, message_of, only, told_place, rule_code, told_of, told_of_filter};
+ghost use Rattle.host_lib.specs.Calls.{PutsFront};
 
 use crate::loading::LoadRefusal;
+use author_text::place::Place;
+use filter_files::FilterFault;
 use life_check::{CheckRefusal, Rule};
 use run_model::FaultKind;
 
@@ -17,8 +20,12 @@ pub struct LoadTold {
     pub code: u32,
     /// The module, from 0 on.
     pub module: u64,
-    /// The line of its text or certificate, from 1 on, or the instruction, from 0 on.
+    /// The line of its text or certificate, from 1 on, or the instruction, from 0 on. Of a filter 0, where what is wrong has no place.
     pub place: u64,
+    /// Of a filter the column, from 1 on, where there is a line.
+    pub column: u64,
+    /// How many bytes the message has.
+    pub message: u64,
 }
 
 /// No module, or too many; or the lengths are not together that of the texts.
@@ -33,6 +40,12 @@ const NO_CERT: u32 = 4;
 const REFUSED: u32 = 5;
 /// The handle holds a session already.
 const HELD: u32 = 6;
+/// A filter is not compiled.
+const NO_FILTER: u32 = 7;
+/// A word is no setting, or is for no filter.
+const NO_SETTING: u32 = 8;
+/// A text is of no kind.
+const NO_KIND: u32 = 9;
 
 fn fault_code(kind: FaultKind) -> u32
     ensures { result ≡ fault_code kind }
@@ -65,6 +78,40 @@ fn rule_code(rule: Rule) -> u32
     }
 }
 
+/// The line and the column of a place, 0 and 0 where there is none.
+fn told_place(place: Option<Place>) -> (usize, usize)
+    ensures { result ≡ told_place place }
+{
+    match place {
+        Some(place) => (place.line, place.column),
+        None => (0, 0),
+    }
+}
+
+/// The line that says in words why a chain is not taken: of filters and settings alone.
+pub(crate) fn message(refusal: &LoadRefusal) -> &[u8]
+    ensures { result.now ≡ message_of refusal.now }
+{
+    match refusal {
+        LoadRefusal::NoFilter { index: _, fault } => fault.line.as_slice(),
+        LoadRefusal::NoSetting { fault } => fault.line.as_slice(),
+        _ => &[],
+    }
+}
+
+/// Puts as much of a message into the front of a buffer as there is room for.
+pub(crate) fn put_message(message: &[u8], buffer: &mut [u8])
+    ensures { PutsFront message.now buffer.old buffer.new }
+{
+    let len = message.len();
+    let room = buffer.len();
+    if len <= room {
+        buffer[..len].copy_from_slice(message);
+    } else {
+        buffer.copy_from_slice(&message[..room]);
+    }
+}
+
 impl LoadTold {
     /// What tells of no module.
     fn of(what: u32) -> LoadTold
@@ -75,6 +122,8 @@ impl LoadTold {
             code: 0,
             module: 0,
             place: 0,
+            column: 0,
+            message: 0,
         }
     }
 
@@ -100,26 +149,52 @@ impl LoadTold {
             LoadRefusal::NoChain => LoadTold::of(NO_CHAIN),
             LoadRefusal::NoMemory => LoadTold::of(NO_MEMORY),
             LoadRefusal::NoModule { index, line, code } => LoadTold {
-                what: NO_MODULE,
                 code: code.number() as u32,
                 module: index as u64,
                 place: line as u64,
+                ..LoadTold::of(NO_MODULE)
             },
             LoadRefusal::NoCert { index, line, code } => LoadTold {
-                what: NO_CERT,
                 code: code.number() as u32,
                 module: index as u64,
                 place: line as u64,
+                ..LoadTold::of(NO_CERT)
             },
             LoadRefusal::NotSafe {
                 index,
                 refusal: CheckRefusal { pc, rule },
             } => LoadTold {
-                what: REFUSED,
                 code: rule_code(rule),
                 module: index as u64,
                 place: pc as u64,
+                ..LoadTold::of(REFUSED)
             },
+            LoadRefusal::NoFilter { index, fault } => LoadTold::of_filter(index, fault),
+            LoadRefusal::NoSetting {
+                fault: FilterFault { place: _, line },
+            } => LoadTold {
+                message: line.len() as u64,
+                ..LoadTold::of(NO_SETTING)
+            },
+            LoadRefusal::NoKind { index } => LoadTold {
+                module: index as u64,
+                ..LoadTold::of(NO_KIND)
+            },
+        }
+    }
+
+    /// Why the filter of this index is not compiled.
+    fn of_filter(index: usize, fault: FilterFault) -> LoadTold
+        ensures { result ≡ told_of_filter index fault }
+    {
+        let FilterFault { place, line } = fault;
+        let (row, column) = told_place(place);
+        LoadTold {
+            module: index as u64,
+            place: row as u64,
+            column: column as u64,
+            message: line.len() as u64,
+            ..LoadTold::of(NO_FILTER)
         }
     }
 }

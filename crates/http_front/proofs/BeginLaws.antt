@@ -6,10 +6,10 @@ use Rattle.httparse.specs.Grammar.{RequestHead}
 use Rattle.httparse.specs.Spans.{IsRequestAt, IsRequestWithin, IsWithin, span_bytes}
 use Rattle.httparse.specs.declared.spans.HeaderSpan.{HeaderSpan}
 use Rattle.httparse.specs.declared.spans.RequestSpans.{RequestSpans}
-use Rattle.http_message.specs.Asking.{method_of, refusal}
+use Rattle.http_message.specs.Asking.{method_of, head_refusal}
 use Rattle.http_message.specs.Clocks.{Said}
 use Rattle.http_message.specs.Heads.{BeginsWithin}
-use Rattle.http_message.specs.Inboxes.{unread}
+use Rattle.http_message.specs.ReadBuffers.{unread}
 use Rattle.http_message.specs.Looking.{IsHeadFound}
 use Rattle.http_message.specs.declared.reply.Method.{Method}
 use Rattle.http_message.specs.declared.reply.Reply.{Reply}
@@ -66,25 +66,25 @@ module _ {K : Type 0} (tells : K → Said → K → Type 0) (before after : K) w
 pub pending_all : {T : Type 0} (c : HttpConn T) (t : ResponseText) → c.sent ≡ 0 → c.text ≡ t → pending c ≡ text_of t
 pending_all c t none is = subst (λ (n : ℕ). drop n (text_of c.text) ≡ text_of t) (sym none) (ap text_of is)
 
-pub follows_as : {T : Type 0} (s : ServeStep) (a b new : HttpConn T) → a.inbox ≡ b.inbox → a.wants ≡ b.wants → a.requests ≡ b.requests → StepFollows s a new → StepFollows s b new
-follows_as (step.Stays size) a b new inbox wants count f = record {
-  still = f.still ∙ ap (λ i. drop size (unread i)) inbox;
-  wants = f.wants ∙ wants;
+pub follows_as : {T : Type 0} (s : ServeStep) (a b new : HttpConn T) → a.read_buffer ≡ b.read_buffer → a.needs_input ≡ b.needs_input → a.requests ≡ b.requests → StepFollows s a new → StepFollows s b new
+follows_as (step.Stays size) a b new read_buffer needs_input count f = record {
+  still = f.still ∙ ap (λ i. drop size (unread i)) read_buffer;
+  needs_input = f.needs_input ∙ needs_input;
   over = f.over;
   counted = f.counted ∙ ap one_more count;
 }
-follows_as (step.Closes size) a b new inbox wants count f = record {
-  still = f.still ∙ ap (λ i. drop size (unread i)) inbox;
-  wants = f.wants ∙ wants;
+follows_as (step.Closes size) a b new read_buffer needs_input count f = record {
+  still = f.still ∙ ap (λ i. drop size (unread i)) read_buffer;
+  needs_input = f.needs_input ∙ needs_input;
   over = f.over;
   counted = f.counted ∙ ap one_more count;
 }
-follows_as step.Refused a b new inbox wants count f = record { still = f.still ∙ ap unread inbox; wants = f.wants ∙ wants; over = f.over; counted = f.counted ∙ ap one_more count }
-follows_as step.More a b new inbox wants count f = record { still = f.still ∙ ap unread inbox; wants = f.wants; over = f.over; counted = f.counted ∙ count }
-follows_as step.Done a b new inbox wants count f = record { still = f.still ∙ ap unread inbox; wants = f.wants ∙ wants; over = f.over; counted = f.counted ∙ count }
+follows_as step.Refused a b new read_buffer needs_input count f = record { still = f.still ∙ ap unread read_buffer; needs_input = f.needs_input ∙ needs_input; over = f.over; counted = f.counted ∙ ap one_more count }
+follows_as step.More a b new read_buffer needs_input count f = record { still = f.still ∙ ap unread read_buffer; needs_input = f.needs_input; over = f.over; counted = f.counted ∙ count }
+follows_as step.Done a b new read_buffer needs_input count f = record { still = f.still ∙ ap unread read_buffer; needs_input = f.needs_input ∙ needs_input; over = f.over; counted = f.counted ∙ count }
 
 -- A head that nothing refuses wants what its path does.
-pub wants_path : (site : Site) (h : RequestHead) (w : SiteTarget) → refusal h ≡ None → WantsPath site h w → Wants site h w
+pub wants_path : (site : Site) (h : RequestHead) (w : SiteTarget) → head_refusal h ≡ None → WantsPath site h w → Wants site h w
 wants_path site h (wanted.Status status) none p = inr (none, p)
 wants_path site h (wanted.File file) none p = (none, p)
 
@@ -95,15 +95,15 @@ near_done all rest now x o is near = subst (λ y. Nears all rest now y) is near
 
 module _ {H T : Type 0} (site : Site) (among : H → Method → List ℕ → RequestOutcome → H → Type 0) (rests : H → T → RequestOutcome → H → Type 0) where
   -- a head that nothing refuses, and whose path has a file, comes to what the request for it does
-  comes_so : (h : RequestHead) (file : List ℕ) (o : RequestOutcome) (old new : H) → refusal h ≡ None → file_of site h ≡ Some file
-      → among old (method_of h.method) file o new → ComesUnless site among (refusal h) old h o new
+  comes_so : (h : RequestHead) (file : List ℕ) (o : RequestOutcome) (old new : H) → head_refusal h ≡ None → file_of site h ≡ Some file
+      → among old (method_of h.method) file o new → ComesUnless site among (head_refusal h) old h o new
   comes_so h file o old new allowed named x = subst (λ r. ComesUnless site among r old h o new) (sym allowed) (subst (λ f. ComesTo site among f old h o new) (sym named) x)
 
   module _ {K : Type 0} (tells : K → Said → K → Type 0) (before after : K) where
     -- the head is answered
     serves_so : (low seen : List ℕ) (a : Asked) (h : RequestHead) (o : RequestOutcome) (old new : H) (s : ServeStep) (text : List ℕ) → IsAskedBy low a h
         → BeginsWithin head_limit fields_limit seen h (drop a.head.len seen) → a.head.len ≤ length seen
-        → ComesUnless site among (refusal h) old h o new → (x : Sends tells before h o a.head.len s text after)
+        → ComesUnless site among (head_refusal h) old h o new → (x : Sends tells before h o a.head.len s text after)
         → ServesRequest site among tells old before seen x.reply.closes a.head.len text new after
     serves_so low seen a h o old new s text asked begins fits comes x = record {
       turn = record { head = h; reply = x.reply; date = x.written.date };
@@ -131,7 +131,7 @@ module _ {H T : Type 0} (site : Site) (among : H → Method → List ℕ → Req
 
     does_so : (low seen : List ℕ) (whole : Bool) (a : Asked) (h : RequestHead) (o : RequestOutcome) (old new : H) (s : ServeStep) (text : List ℕ)
         → IsAskedBy low a h → BeginsWithin head_limit fields_limit seen h (drop a.head.len seen) → a.head.len ≤ length seen
-        → ComesUnless site among (refusal h) old h o new → Sends tells before h o a.head.len s text after → DoesStep site among tells old before seen whole s text new after
+        → ComesUnless site among (head_refusal h) old h o new → Sends tells before h o a.head.len s text after → DoesStep site among tells old before seen whole s text new after
     does_so low seen whole a h o old new s text asked begins fits comes x =
         by_closes x.reply.closes seen whole a.head.len s text old new x.answered (serves_so low seen a h o old new s text asked begins fits comes x)
 

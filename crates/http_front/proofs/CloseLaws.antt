@@ -30,7 +30,7 @@ module _ (k : ℕ) (w v : World) where
     labels_none (Some c) labels is = closed_none memory c labels is
     labels_none None labels is = let told = ap (λ (p : Answer × World). p.0) is in absurd (cc)
 
-    -- it was refused, and not for want of memory
+    -- it was refused, and not for lack of memory
     not_there : (at : Option Connection) (why : Refusal) → w.conns k ≡ at → ¬ (why ≡ refusal.NoMemory)
         → happens_on memory budget chain told event.Close k at w ≡ (Refused why, v) → (why ≡ refusal.NoSuchConn) × (v.conns k ≡ None)
     unfolding happens_on

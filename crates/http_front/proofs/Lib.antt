@@ -20,3 +20,6 @@ pub mod BeginLaws
 pub mod TurnLaws
 pub mod CloseLaws
 pub mod FewLaws
+pub mod ComesOnce
+pub mod StreamOnce
+pub mod ServeOnce

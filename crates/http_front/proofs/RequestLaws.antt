@@ -58,14 +58,14 @@ module _ {F R : Type 0} {g : Ghosts R Stored} (device : F → Device) (number : 
 
     pub output_refused : (o : RequestOutcome) (why : Refusal) → IsUnserved (Some (failure.Refused why)) o → HappenedInAny device old new number event.TakeOutput (Refused why)
         → Refines device old new (λ b c s t. TakesOutput b c number s o t)
-    output_refused o why bare h =
+    output_refused o why without_body h =
         leads_as device old new (λ b c s t. Answers b c number event.TakeOutput s (Refused why) t) (λ b c s t. TakesOutput b c number s o t)
-        (λ b c s t a. record { answer = Err why; acts = a; gives = bare }) (by_event device old new number event.TakeOutput (Refused why) h)
+        (λ b c s t a. record { answer = Err why; acts = a; gives = without_body }) (by_event device old new number event.TakeOutput (Refused why) h)
 
     pub bare_finished : (why : Option Failure) (o : RequestOutcome) → IsUnserved why o → Refines device old new (λ b c s t. EndsRequest b c number s t)
         → MakesSlice device number (λ way b c. EndsBareIn way b c number why) old (Ok (slice.Done o)) new
-    bare_finished why o bare h way =
-        leads_as device old new (λ b c s t. EndsRequest b c number s t) (λ b c s t. EndsBareIn way b c number why s o t) (λ b c s t e. (bare, ends_now way b c number s t e)) h
+    bare_finished why o without_body h way =
+        leads_as device old new (λ b c s t. EndsRequest b c number s t) (λ b c s t. EndsBareIn way b c number why s o t) (λ b c s t e. (without_body, ends_now way b c number s t e)) h
 
     -- something lacked
     pub lacked : (all : Whole) (first : Transition) (r : Result (Slice RequestTask) FrontKind) (e : FrontKind) → r ≡ Err e → Refines device old new first

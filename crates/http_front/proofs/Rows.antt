@@ -11,7 +11,7 @@ use Rattle.http1.specs.Text.{eq_ignore_case}
 use Rattle.httpdate.specs.Calendar.{days_of_months, days_of_years}
 use Rattle.httpdate.specs.declared.date.HttpDate.{HttpDate}
 use Rattle.percent_encoding.specs.Percent.{percent_decode}
-use Rattle.http_message.specs.Asking.{head_closes, method_refusal, refusal, target_path}
+use Rattle.http_message.specs.Asking.{head_closes, method_refusal, head_refusal, target_path}
 use Rattle.http_message.specs.Fields.{closes, field_refusal, has_content, hosts_fit, is_bad_length}
 use Rattle.http_message.specs.Heads.{IsHeadlessWithin}
 use Rattle.http_message.specs.Replying.{closing, head_text, middle, opening, reply_text}
@@ -25,7 +25,7 @@ use Rattle.http_message.proofs.SitePaths.{path-utf8}
 use Rattle.http_front.specs.Outcomes.{file_of}
 use Rattle.http_front.specs.declared.handler.RequestOutcome.{RequestOutcome}
 use Rattle.http_front.specs.Rows.{Http10, HttpBadHead, HttpConnectionOption, HttpEmptyFile, HttpFailing, HttpGet, HttpGetAbsolute, HttpHead, HttpLargeFile}
-use Rattle.http_front.specs.Rows.{HttpManyFields, HttpMethods, HttpMissing, HttpRequestBody, RepliesAreThese, bad_reply, bare, failed, host, line, many, reply_of}
+use Rattle.http_front.specs.Rows.{HttpManyFields, HttpMethods, HttpMissing, HttpRequestBody, RepliesAreThese, bad_reply, without_body, failed, host, line, many, reply_of}
 use Rattle.http_front.specs.Turns.{fields_limit, head_limit}
 
 -- replies with the same parts
@@ -64,27 +64,27 @@ unfolding sunday days_of_years days_of_months
 replies_are_these = record {
   reply = λ h o r is. same_reply r (reply_of h o) is.status is.version is.method is.closes is.body is.failure;
   bad = λ r is. same_reply r bad_reply is.status is.version is.method is.closes is.body is.failure;
-  without = λ status o is. same_outcome o (bare status) is.0 is.1 is.2;
+  without = λ status o is. same_outcome o (without_body status) is.0 is.1 is.2;
   unserved = λ why o is. same_outcome o (failed why) is.0 is.1 is.2;
   dated = λ text line. line.date sunday (lit< tt) refl;
 }
 
 pub http_get : HttpGet
-unfolding digits print_request refusal field_refusal hosts_fit is_bad_length has_content method_refusal target_path head_closes closes elements eq_ignore_case
+unfolding digits print_request head_refusal field_refusal hosts_fit is_bad_length has_content method_refusal target_path head_closes closes elements eq_ignore_case
     trim_ows file_of percent_decode reply_text opening middle closing head_text
 http_get = record { sent = refl; asks = (refl, refl, refl); file = λ site. refl; answered = (refl, refl) }
 
 pub http_get_absolute : HttpGetAbsolute
-unfolding print_request refusal field_refusal hosts_fit is_bad_length has_content method_refusal target_path head_closes closes elements eq_ignore_case trim_ows file_of percent_decode
+unfolding print_request head_refusal field_refusal hosts_fit is_bad_length has_content method_refusal target_path head_closes closes elements eq_ignore_case trim_ows file_of percent_decode
 http_get_absolute = record { sent = refl; asks = (refl, refl, refl); decoded = refl; file = λ site. refl; reply = λ o. refl }
 
 pub http_head : HttpHead
-unfolding print_request refusal field_refusal hosts_fit is_bad_length has_content method_refusal target_path head_closes closes elements eq_ignore_case trim_ows
+unfolding print_request head_refusal field_refusal hosts_fit is_bad_length has_content method_refusal target_path head_closes closes elements eq_ignore_case trim_ows
     reply_text opening middle closing head_text
 http_head = record { sent = refl; asks = (refl, refl, refl); method = refl; answered = (refl, refl) }
 
 pub http_bad_head : HttpBadHead
-unfolding print_request refusal field_refusal hosts_fit is_bad_length has_content method_refusal target_path head_closes closes elements eq_ignore_case trim_ows
+unfolding print_request head_refusal field_refusal hosts_fit is_bad_length has_content method_refusal target_path head_closes closes elements eq_ignore_case trim_ows
     reply_text opening middle closing head_text
 http_bad_head = record { sent = refl; asks = (refl, refl, refl); answered = (refl, refl) }
 
@@ -117,7 +117,7 @@ too_many limit room h is over k rest begins =
     absurd (omega (arith, over, fits))
 
 pub http_many_fields : HttpManyFields
-unfolding print_request refusal field_refusal hosts_fit is_bad_length has_content method_refusal target_path head_closes closes elements eq_ignore_case trim_ows
+unfolding print_request head_refusal field_refusal hosts_fit is_bad_length has_content method_refusal target_path head_closes closes elements eq_ignore_case trim_ows
     reply_text opening middle closing head_text
 http_many_fields = record {
   within = record { size = lit≤ tt; count = lit≤ tt };
@@ -128,16 +128,16 @@ http_many_fields = record {
 }
 
 pub http_1_0 : Http10
-unfolding digits print_request refusal field_refusal hosts_fit is_bad_length has_content method_refusal target_path head_closes closes elements eq_ignore_case
+unfolding digits print_request head_refusal field_refusal hosts_fit is_bad_length has_content method_refusal target_path head_closes closes elements eq_ignore_case
     trim_ows reply_text opening middle closing head_text
 http_1_0 = record { sent = refl; asks = (refl, refl, refl); answered = (refl, refl) }
 
 pub http_methods : HttpMethods
-unfolding refusal field_refusal hosts_fit is_bad_length has_content method_refusal target_path head_closes closes elements eq_ignore_case trim_ows reply_text opening middle closing head_text
+unfolding head_refusal field_refusal hosts_fit is_bad_length has_content method_refusal target_path head_closes closes elements eq_ignore_case trim_ows reply_text opening middle closing head_text
 http_methods = record { post_asks = (refl, refl, refl); post_answered = (refl, refl); brew_asks = (refl, refl, refl); brew_answered = (refl, refl) }
 
 pub http_missing : HttpMissing
-unfolding refusal field_refusal hosts_fit is_bad_length has_content method_refusal target_path head_closes closes elements eq_ignore_case trim_ows file_of
+unfolding head_refusal field_refusal hosts_fit is_bad_length has_content method_refusal target_path head_closes closes elements eq_ignore_case trim_ows file_of
     percent_decode reply_text opening middle closing head_text
 http_missing = record { asks = (refl, refl, refl); file = λ site. refl; answered = (refl, refl) }
 
@@ -154,9 +154,10 @@ unfolding digits head_closes closes elements eq_ignore_case trim_ows reply_text 
 http_large_file = record { size = refl; answered = λ bytes long. (rw long refl, refl) }
 
 pub http_request_body : HttpRequestBody
-unfolding refusal field_refusal hosts_fit is_bad_length has_content method_refusal target_path head_closes closes elements eq_ignore_case trim_ows reply_text opening middle closing head_text
+unfolding head_refusal field_refusal hosts_fit is_bad_length has_content method_refusal target_path head_closes closes elements eq_ignore_case trim_ows reply_text opening middle closing head_text
 http_request_body = record { asks = (refl, refl, refl); answered = (refl, refl); none_asks = (refl, refl, refl); none_reply = λ o. refl }
 
 pub http_connection_option : HttpConnectionOption
-unfolding digits refusal field_refusal hosts_fit is_bad_length has_content method_refusal target_path head_closes closes elements eq_ignore_case trim_ows reply_text opening middle closing head_text
+unfolding digits head_refusal field_refusal hosts_fit is_bad_length has_content method_refusal target_path head_closes closes elements eq_ignore_case trim_ows reply_text
+    opening middle closing head_text
 http_connection_option = record { asks = (refl, refl, refl); answered = (refl, refl) }

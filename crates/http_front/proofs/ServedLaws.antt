@@ -22,13 +22,13 @@ module _ {H K : Type 0} (site : Site) (handles : H → Method → List ℕ → R
   -- no bytes are added
   pub far_loses : (old : H) (before : K) (r q p w v : Option (List ℕ)) (unread : List ℕ) (n : ℕ) (new : H) (after : K) (e : FrontKind)
       → ServedSoFar site handles tells old before r q w v unread n new after → WantsMore unread → Loses 8192 q p e → FailsBy site handles tells lacks old before r p w v new after e
-  far_loses old before r q p w v unread n new after kind.Read so wants none =
-      far_wants site handles tells old before r p w v unread n new after (far_read site handles tells old before r q p w v unread [] unread n new after so none (sym (append-nil unread))) wants
-  far_loses old before r q p w v unread n new after kind.TooManyReads so wants none =
-      far_wants site handles tells old before r p w v unread n new after (far_read site handles tells old before r q p w v unread [] unread n new after so none (sym (append-nil unread))) wants
-  far_loses old before r q p w v unread n new after kind.NoMemory so wants lost = far_loses_read site handles tells old before r q p w v unread lost.0 n new after so wants lost.1 lost.2 lost.3
-  far_loses old before r q p w v unread n new after kind.Write so wants lost = absurd lost
-  far_loses old before r q p w v unread n new after kind.NamesSpent so wants lost = absurd lost
+  far_loses old before r q p w v unread n new after kind.Read so needs_input none =
+      far_wants site handles tells old before r p w v unread n new after (far_read site handles tells old before r q p w v unread [] unread n new after so none (sym (append-nil unread))) needs_input
+  far_loses old before r q p w v unread n new after kind.TooManyReads so needs_input none =
+      far_wants site handles tells old before r p w v unread n new after (far_read site handles tells old before r q p w v unread [] unread n new after so none (sym (append-nil unread))) needs_input
+  far_loses old before r q p w v unread n new after kind.NoMemory so needs_input lost = far_loses_read site handles tells old before r q p w v unread lost.0 n new after so needs_input lost.1 lost.2 lost.3
+  far_loses old before r q p w v unread n new after kind.Write so needs_input lost = absurd lost
+  far_loses old before r q p w v unread n new after kind.NamesSpent so needs_input lost = absurd lost
 
   -- how a `?` leaves, of what goes on or fails
   pub fails_as : {T : Type 0} (old : H) (before : K) (r q w v : Option (List ℕ)) (over : Bool) (unread : List ℕ) (n : ℕ) (new : H) (after : K) (result : Result T FrontKind) (y e : FrontKind)

@@ -128,7 +128,7 @@ module _ {H K : Type 0} (site : Site) (handles : H → Method → List ℕ → R
   -- Serving fails where all whole requests that were read are answered.
   pub far_wants : (old : H) (before : K) (r q w v : Option (List ℕ)) (unread : List ℕ) (n : ℕ) (new : H) (after : K)
       → Far old before r q w v unread n new after → WantsMore unread → Writes r w v (λ stream text. AnswersRequestsRead site handles tells old before stream text q new after)
-  far_wants old before r q w v unread n new after so wants =
+  far_wants old before r q w v unread n new after so needs_input =
       far_told (λ stream text. AnswersRequestsRead site handles tells old before stream text q new after) old before r q w v unread n new after so (λ stream left leaves splits. record {
         first = heads_of so.turns;
         seen = unread;
@@ -136,7 +136,7 @@ module _ {H K : Type 0} (site : Site) (handles : H → Method → List ℕ → R
         n = n;
         splits = splits;
         responses = record { turns = so.turns; stay = so.stay; answers = so.answers; requests = refl; written = refl; count = so.count };
-        wants = wants;
+        needs_input = needs_input;
         leaves = leaves;
       })
 
@@ -161,7 +161,7 @@ module _ {H K : Type 0} (site : Site) (handles : H → Method → List ℕ → R
   pub far_loses_read : (old : H) (before : K) (r q p w v : Option (List ℕ)) (unread lost : List ℕ) (n : ℕ) (new : H) (after : K)
       → Far old before r q w v unread n new after → WantsMore unread → ¬ (lost ≡ []) → length lost ≤ 8192 → Consumes q p lost
       → Writes r w v (λ stream text. MemoryLacked site handles tells old before stream text p new after)
-  far_loses_read old before r q p w v unread lost n new after so wants some few took =
+  far_loses_read old before r q p w v unread lost n new after so needs_input some few took =
       far_told (λ stream text. MemoryLacked site handles tells old before stream text p new after) old before r q w v unread n new after so (λ stream left leaves splits.
       let rest = left_of left lost p (subst (λ x. Consumes x p lost) leaves took) in
       inr (inl (record {
@@ -174,7 +174,7 @@ module _ {H K : Type 0} (site : Site) (handles : H → Method → List ℕ → R
         few = few;
         splits = splits ∙ ap (λ l. heads_of so.turns ++ unread ++ l) rest.2 ∙ sym (append_assoc (heads_of so.turns ++ unread) lost rest.0);
         responses = record { turns = so.turns; stay = so.stay; answers = so.answers; requests = refl; written = refl; count = so.count };
-        wants = wants;
+        needs_input = needs_input;
         leaves = rest.1;
       })))
 
@@ -282,8 +282,8 @@ module _ {H K : Type 0} (site : Site) (handles : H → Method → List ℕ → R
   unfolding far_stays front_of unwritten
   cut_stays old before None q w v u unread n size k mid new then after text so serves few wrote = tt
   cut_stays old before (Some stream) q w v u unread n size k mid new then after text so serves few wrote =
-      let bare = unwritten old before (Some stream) q w v unread n mid then so in
-      let next = far_stays old before (Some stream) q None None None unread (drop size unread) n (n + 1) size mid new then after text bare serves tt refl refl in
+      let without_body = unwritten old before (Some stream) q w v unread n mid then so in
+      let next = far_stays old before (Some stream) q None None None unread (drop size unread) n (n + 1) size mid new then after text without_body serves tt refl refl in
       let all : texts_of next.turns ≡ texts_of so.turns ++ text = texts_more so.turns serves.turn ∙ ap (λ l. texts_of so.turns ++ l) (sym serves.written) in
       cut_of old before q w v u stream unread n k mid new then after text so (subst (λ l. IsNext site handles tells old before stream l (n + 1) new after) all
       (inl (front_of old before stream q None None (drop size unread) (n + 1) new after next, refl, refl, refl))) few wrote
@@ -313,10 +313,10 @@ module _ {H K : Type 0} (site : Site) (handles : H → Method → List ℕ → R
 
     pub far_lacks_by : (old : H) (before : K) (r q w v : Option (List ℕ)) (unread : List ℕ) (whole : Bool) (n : ℕ) (mid new : H) (then after : K) (e : FrontKind)
         → Far old before r q w v unread n mid then → (whole ≡ true → IsAtEnd q) → LacksAnswer site lacks mid unread whole new e → FailsBy site handles tells lacks old before r q w v new after e
-    far_lacks_by old before r q w v unread whole n mid new then after kind.NoMemory so end wants =
-        lack_memory r q w v old before new after (far_lacks (λ m. IsDue) old before r q w v unread n mid then so (λ left leaves. is_due unread left whole (λ is. at_end q left leaves (end is)) wants))
-    far_lacks_by old before r q w v unread whole n mid new then after kind.NamesSpent so end wants =
-        far_lacks (λ m seen left. LacksFile site lacks m seen new) old before r q w v unread n mid then so (λ left leaves. wants)
+    far_lacks_by old before r q w v unread whole n mid new then after kind.NoMemory so end needs_input =
+        lack_memory r q w v old before new after (far_lacks (λ m. IsDue) old before r q w v unread n mid then so (λ left leaves. is_due unread left whole (λ is. at_end q left leaves (end is)) needs_input))
+    far_lacks_by old before r q w v unread whole n mid new then after kind.NamesSpent so end needs_input =
+        far_lacks (λ m seen left. LacksFile site lacks m seen new) old before r q w v unread n mid then so (λ left leaves. needs_input)
     far_lacks_by old before r q w v unread whole n mid new then after e so end lack = absurd lack
 
     -- The sink fails, or lacks memory.

@@ -6,8 +6,8 @@ use Rattle.std.specs.Io.KnownBytes.{Appends, Consumes}
 use Rattle.std.proofs.KnownBytes.{Appends-nil, Consumes-nil}
 use Rattle.httparse.specs.Grammar.{RequestHead, print_request}
 use Rattle.http_message.specs.Clocks.{Said, IsNoted}
-use Rattle.http_message.specs.Inboxes.{unread}
-use Rattle.http_message.specs.Asking.{method_of, refusal}
+use Rattle.http_message.specs.ReadBuffers.{unread}
+use Rattle.http_message.specs.Asking.{method_of, head_refusal}
 use Rattle.http_message.specs.declared.reply.Method.{Method}
 use Rattle.http_message.specs.declared.reply.Reply.{Reply}
 use Rattle.http_message.specs.declared.site.Site.{Site}
@@ -54,7 +54,7 @@ module _ {H K : Type 0} (site : Site) (among : H → Method → List ℕ → Req
   answers_later : (t : Turn) (mid now new : H) (then at after : K) → apart mid now → Passes tells then at → AnswersRequest site among tells now at t new after
       → (to : H) × AnswersRequest site among (TellsLater tells) mid then t to after × apart to new
   answers_later t mid now new then at after gap p a =
-      let c = comes_later (refusal t.head) t.head a.outcome mid now new gap a.comes in (
+      let c = comes_later (head_refusal t.head) t.head a.outcome mid now new gap a.comes in (
         c.0,
         record {
           valid = a.valid;
@@ -191,27 +191,27 @@ module _ {H K T : Type 0} (site : Site) (among : H → Method → List ℕ → R
       → ((k : T) (o : RequestOutcome) (z : H) → rests new k o z → rests now k o z)
       → ((from : K) → Passes tells from at → Passes tells from after) → StandsHere came went c now at → StandsHere came went c new after
   stands_later came went c now new at after gap rest pass s =
-      record { mid = s.mid; then = s.then; so = s.so; hand = hand_later came went c.hand (unread c.inbox) s.mid now new gap rest s.hand; passed = pass s.then s.passed }
+      record { mid = s.mid; then = s.then; so = s.so; hand = hand_later came went c.hand (unread c.read_buffer) s.mid now new gap rest s.hand; passed = pass s.then s.passed }
 
-  hand_as : (came went more text : List ℕ) (old new : HttpConn T) (mid now to : H) → to ≡ now → new.inbox ≡ old.inbox → new.hand ≡ old.hand
-      → HandOver came went old.hand (unread old.inbox) mid now → HandOver more text new.hand (unread new.inbox) mid to
-  hand_as came went more text old new mid now to still inbox hand h =
-      subst (λ (x : H). HandOver more text new.hand (unread new.inbox) mid x) (sym still) (subst (λ (x : Option (UnderWay T)). HandOver more text x (unread new.inbox) mid now) (sym hand)
-      (subst (λ (x : List ℕ). HandOver more text old.hand x mid now) (ap unread (sym inbox)) (moved old.hand h))) where
-        moved : (x : Option (UnderWay T)) → HandOver came went x (unread old.inbox) mid now → HandOver more text x (unread old.inbox) mid now
+  hand_as : (came went more text : List ℕ) (old new : HttpConn T) (mid now to : H) → to ≡ now → new.read_buffer ≡ old.read_buffer → new.hand ≡ old.hand
+      → HandOver came went old.hand (unread old.read_buffer) mid now → HandOver more text new.hand (unread new.read_buffer) mid to
+  hand_as came went more text old new mid now to still read_buffer hand h =
+      subst (λ (x : H). HandOver more text new.hand (unread new.read_buffer) mid x) (sym still) (subst (λ (x : Option (UnderWay T)). HandOver more text x (unread new.read_buffer) mid now) (sym hand)
+      (subst (λ (x : List ℕ). HandOver more text old.hand x mid now) (ap unread (sym read_buffer)) (moved old.hand h))) where
+        moved : (x : Option (UnderWay T)) → HandOver came went x (unread old.read_buffer) mid now → HandOver more text x (unread old.read_buffer) mid now
         moved None h = h
         moved (Some u) h = h
 
   -- a part of a response is written
   pub stands_wrote : (came went : List ℕ) (old new : HttpConn T) (now to : H) (at : K) (n : ℕ) → to ≡ now → pending new ≡ drop n (pending old)
-      → new.inbox ≡ old.inbox → new.over ≡ old.over → new.hand ≡ old.hand → StandsHere came went old now at → StandsHere came (went ++ take n (pending old)) new to at
-  stands_wrote came went old new now to at n still left inbox over hand s = record {
+      → new.read_buffer ≡ old.read_buffer → new.over ≡ old.over → new.hand ≡ old.hand → StandsHere came went old now at → StandsHere came (went ++ take n (pending old)) new to at
+  stands_wrote came went old new now to at n still left read_buffer over hand s = record {
     mid = s.mid;
     then = s.then;
-    so = so_as came old.over new.over (went ++ pending old) ((went ++ take n (pending old)) ++ pending new) (unread old.inbox) (unread new.inbox) s.mid s.then (sym over)
+    so = so_as came old.over new.over (went ++ pending old) ((went ++ take n (pending old)) ++ pending new) (unread old.read_buffer) (unread new.read_buffer) s.mid s.then (sym over)
         (ap (λ l. went ++ l) (sym (take-append-drop n (pending old)) ∙ ap (λ l. take n (pending old) ++ l) (sym left))
-        ∙ sym (append_assoc went (take n (pending old)) (pending new))) (ap unread (sym inbox)) s.so;
-    hand = hand_as came went came (went ++ take n (pending old)) old new s.mid now to still inbox hand s.hand;
+        ∙ sym (append_assoc went (take n (pending old)) (pending new))) (ap unread (sym read_buffer)) s.so;
+    hand = hand_as came went came (went ++ take n (pending old)) old new s.mid now to still read_buffer hand s.hand;
     passed = s.passed;
   }
 
@@ -227,21 +227,21 @@ module _ {H K T : Type 0} (site : Site) (among : H → Method → List ℕ → R
 
   -- the connection is open
   is_open : (came went : List ℕ) (c : HttpConn T) (now : H) (at : K) → c.over ≡ false → (s : StandsHere came went c now at)
-      → IsOpenSo site among (TellsLater tells) start first came (went ++ pending c) (unread c.inbox) s.mid s.then
-  is_open came went c now at over s = so_as came c.over false (went ++ pending c) (went ++ pending c) (unread c.inbox) (unread c.inbox) s.mid s.then over refl refl s.so
+      → IsOpenSo site among (TellsLater tells) start first came (went ++ pending c) (unread c.read_buffer) s.mid s.then
+  is_open came went c now at over s = so_as came c.over false (went ++ pending c) (went ++ pending c) (unread c.read_buffer) (unread c.read_buffer) s.mid s.then over refl refl s.so
 
   -- bytes came in
-  pub stands_read : (came went bytes : List ℕ) (old new : HttpConn T) (now : H) (at : K) → unread new.inbox ≡ unread old.inbox ++ bytes → pending new ≡ pending old
+  pub stands_read : (came went bytes : List ℕ) (old new : HttpConn T) (now : H) (at : K) → unread new.read_buffer ≡ unread old.read_buffer ++ bytes → pending new ≡ pending old
       → new.over ≡ old.over → old.over ≡ false → new.hand ≡ old.hand → old.hand ≡ None → StandsHere came went old now at → StandsHere (came ++ bytes) went new now at
   stands_read came went bytes old new now at added still over was hand none s = record {
     mid = s.mid;
     then = s.then;
     so =
-        so_as (came ++ bytes) false new.over (went ++ pending old) (went ++ pending new) (unread old.inbox ++ bytes) (unread new.inbox) s.mid s.then
-        (sym (over ∙ was)) (ap (λ l. went ++ l) (sym still)) (sym added) (open_more came bytes (went ++ pending old) (unread old.inbox) s.mid s.then (is_open came went old now at was s));
+        so_as (came ++ bytes) false new.over (went ++ pending old) (went ++ pending new) (unread old.read_buffer ++ bytes) (unread new.read_buffer) s.mid s.then
+        (sym (over ∙ was)) (ap (λ l. went ++ l) (sym still)) (sym added) (open_more came bytes (went ++ pending old) (unread old.read_buffer) s.mid s.then (is_open came went old now at was s));
     hand =
-        subst (λ (x : Option (UnderWay T)). HandOver (came ++ bytes) went x (unread new.inbox) s.mid now) (sym (hand ∙ none))
-        (subst (λ (x : Option (UnderWay T)). HandOver came went x (unread old.inbox) s.mid now) none s.hand);
+        subst (λ (x : Option (UnderWay T)). HandOver (came ++ bytes) went x (unread new.read_buffer) s.mid now) (sym (hand ∙ none))
+        (subst (λ (x : Option (UnderWay T)). HandOver came went x (unread old.read_buffer) s.mid now) none s.hand);
     passed = s.passed;
   }
 
@@ -251,72 +251,72 @@ module _ {H K T : Type 0} (site : Site) (among : H → Method → List ℕ → R
   cut_read came went bytes old now at was s = record {
     over = false;
     rest = pending old;
-    left = unread old.inbox ++ bytes;
+    left = unread old.read_buffer ++ bytes;
     mid = s.mid;
     then = s.then;
-    so = open_more came bytes (went ++ pending old) (unread old.inbox) s.mid s.then (is_open came went old now at was s);
+    so = open_more came bytes (went ++ pending old) (unread old.read_buffer) s.mid s.then (is_open came went old now at was s);
   }
 
   -- nothing more is done
   pub stands_cut : (came went : List ℕ) (c : HttpConn T) (now : H) (at : K) → StandsHere came went c now at → StandsCut site among rests tells apart start first came went
-  stands_cut came went c now at s = record { over = c.over; rest = pending c; left = unread c.inbox; mid = s.mid; then = s.then; so = s.so }
+  stands_cut came went c now at s = record { over = c.over; rest = pending c; left = unread c.read_buffer; mid = s.mid; then = s.then; so = s.so }
 
   module _ (same : (h : H) → apart h h) (later : (mid now new : H) (method : Method) (file : List ℕ) (o : RequestOutcome) → apart mid now → among now method file o new → among mid method file o new)
       (came went : List ℕ) (old new : HttpConn T) (now to : H) (at after : K) (none : pending old ≡ []) (was : old.over ≡ false) (s : StandsHere came went old now at) where
-    here : IsOpenSo site among (TellsLater tells) start first came went (unread old.inbox) s.mid s.then
+    here : IsOpenSo site among (TellsLater tells) start first came went (unread old.read_buffer) s.mid s.then
     here =
-        so_as came false false (went ++ pending old) went (unread old.inbox) (unread old.inbox) s.mid s.then refl (ap (λ l. went ++ l) none ∙ append-nil went) refl (is_open came went old now at was s)
+        so_as came false false (went ++ pending old) went (unread old.read_buffer) (unread old.read_buffer) s.mid s.then refl (ap (λ l. went ++ l) none ∙ append-nil went) refl (is_open came went old now at was s)
 
     -- it stands behind a step
-    behind : (over : Bool) (left : List ℕ) (mid : H) (then : K) → new.over ≡ over → unread new.inbox ≡ left → new.hand ≡ None
+    behind : (over : Bool) (left : List ℕ) (mid : H) (then : K) → new.over ≡ over → unread new.read_buffer ≡ left → new.hand ≡ None
         → So came over (went ++ pending new) left mid then → apart mid to → Passes tells then after → StandsHere came went new to after
     behind over left mid then ends reads idle so gap pass = record {
       mid = mid;
       then = then;
-      so = so_as came over new.over (went ++ pending new) (went ++ pending new) left (unread new.inbox) mid then (sym ends) refl (sym reads) so;
-      hand = subst (λ (x : Option (UnderWay T)). HandOver came went x (unread new.inbox) mid to) (sym idle) gap;
+      so = so_as came over new.over (went ++ pending new) (went ++ pending new) left (unread new.read_buffer) mid then (sym ends) refl (sym reads) so;
+      hand = subst (λ (x : Option (UnderWay T)). HandOver came went x (unread new.read_buffer) mid to) (sym idle) gap;
       passed = pass;
     }
 
     -- the step was made from this state of the handler on: it is apart from that of the last answer
     module _ (from : H) (gap : apart s.mid from) (idle : new.hand ≡ None) where
-      stands_step : (st : ServeStep) → DoesStep site among tells from at (unread old.inbox) old.whole st (pending new) to after → StepFollows st old new → StandsHere came went new to after
+      stands_step : (st : ServeStep) → DoesStep site among tells from at (unread old.read_buffer) old.whole st (pending new) to after → StepFollows st old new → StandsHere came went new to after
       stands_step (step.Stays size) did f =
-          let l = serves_later site among tells apart same later (unread old.inbox) false size (pending new) s.mid from to s.then at after gap s.passed did in
-          behind false (drop size (unread old.inbox)) l.0 after f.over f.still idle (so_stays site among (TellsLater tells) start first came went (unread old.inbox) (drop size (unread old.inbox))
+          let l = serves_later site among tells apart same later (unread old.read_buffer) false size (pending new) s.mid from to s.then at after gap s.passed did in
+          behind false (drop size (unread old.read_buffer)) l.0 after f.over f.still idle (so_stays site among (TellsLater tells) start first came went (unread old.read_buffer) (drop size (unread old.read_buffer))
           (pending new) size s.mid l.0 s.then after here l.1 refl) l.2 (passes_none tells after)
       stands_step (step.Closes size) did f =
-          let l = serves_later site among tells apart same later (unread old.inbox) true size (pending new) s.mid from to s.then at after gap s.passed did in
-          behind true (drop size (unread old.inbox)) l.0 after f.over f.still idle
-          (so_closes site among (TellsLater tells) start first came went (unread old.inbox) (pending new) size s.mid l.0 s.then after here l.1) l.2 (passes_none tells after)
+          let l = serves_later site among tells apart same later (unread old.read_buffer) true size (pending new) s.mid from to s.then at after gap s.passed did in
+          behind true (drop size (unread old.read_buffer)) l.0 after f.over f.still idle
+          (so_closes site among (TellsLater tells) start first came went (unread old.read_buffer) (pending new) size s.mid l.0 s.then after here l.1) l.2 (passes_none tells after)
       stands_step step.Refused did f =
-          behind true (unread old.inbox) s.mid after f.over f.still idle
-          (so_refused site among (TellsLater tells) start first came went (unread old.inbox) (pending new) old.whole s.mid s.then after here did.0 did.1
+          behind true (unread old.read_buffer) s.mid after f.over f.still idle
+          (so_refused site among (TellsLater tells) start first came went (unread old.read_buffer) (pending new) old.whole s.mid s.then after here did.0 did.1
           (bad_later site among tells apart same later (pending new) s.then at after s.passed did.3)) (subst (λ (x : H). apart s.mid x) (sym did.2) gap) (passes_none tells after)
       stands_step step.More did f =
-          behind false (unread old.inbox) s.mid s.then f.over f.still idle
-          (so_as came false false went (went ++ pending new) (unread old.inbox) (unread old.inbox) s.mid s.then refl (sym (append-nil went) ∙ ap (λ l. went ++ l) (sym did.2.none)) refl here)
+          behind false (unread old.read_buffer) s.mid s.then f.over f.still idle
+          (so_as came false false went (went ++ pending new) (unread old.read_buffer) (unread old.read_buffer) s.mid s.then refl (sym (append-nil went) ∙ ap (λ l. went ++ l) (sym did.2.none)) refl here)
           (subst (λ (x : H). apart s.mid x) (sym did.2.same) gap) (subst (λ (x : K). Passes tells s.then x) (sym did.2.still) s.passed)
       stands_step step.Done did f =
-          behind true (unread old.inbox) s.mid s.then f.over f.still idle
-          (so_as came true true went (went ++ pending new) (unread old.inbox) (unread old.inbox) s.mid s.then refl (sym (append-nil went) ∙ ap (λ l. went ++ l) (sym did.2.none)) refl
-          (so_done site among (TellsLater tells) start first came went (unread old.inbox) s.mid s.then here did.1))
+          behind true (unread old.read_buffer) s.mid s.then f.over f.still idle
+          (so_as came true true went (went ++ pending new) (unread old.read_buffer) (unread old.read_buffer) s.mid s.then refl (sym (append-nil went) ∙ ap (λ l. went ++ l) (sym did.2.none)) refl
+          (so_done site among (TellsLater tells) start first came went (unread old.read_buffer) s.mid s.then here did.1))
           (subst (λ (x : H). apart s.mid x) (sym did.2.same) gap) (subst (λ (x : K). Passes tells s.then x) (sym did.2.still) s.passed)
 
     -- a request is under way
-    stands_works : (u : UnderWay T) → IsUnderWay site among rests (unread old.inbox) u s.mid to → after ≡ at → pending new ≡ []
-        → unread new.inbox ≡ unread old.inbox → new.over ≡ false → new.hand ≡ Some u → StandsHere came went new to after
+    stands_works : (u : UnderWay T) → IsUnderWay site among rests (unread old.read_buffer) u s.mid to → after ≡ at → pending new ≡ []
+        → unread new.read_buffer ≡ unread old.read_buffer → new.over ≡ false → new.hand ≡ Some u → StandsHere came went new to after
     stands_works u way still nothing reads going hand = record {
       mid = s.mid;
       then = s.then;
       so =
-          so_as came false new.over went (went ++ pending new) (unread old.inbox) (unread new.inbox) s.mid s.then (sym going)
+          so_as came false new.over went (went ++ pending new) (unread old.read_buffer) (unread new.read_buffer) s.mid s.then (sym going)
           (sym (append-nil went) ∙ ap (λ l. went ++ l) (sym nothing)) (sym reads) here;
-      hand = subst (λ (x : Option (UnderWay T)). HandOver came went x (unread new.inbox) s.mid to) (sym hand) (subst (λ (x : List ℕ). IsUnderWay site among rests x u s.mid to) (sym reads) way);
+      hand = subst (λ (x : Option (UnderWay T)). HandOver came went x (unread new.read_buffer) s.mid to) (sym hand) (subst (λ (x : List ℕ). IsUnderWay site among rests x u s.mid to) (sym reads) way);
       passed = subst (λ (x : K). Passes tells s.then x) (sym still) s.passed;
     }
 
-    under_later : (u : UnderWay T) → apart s.mid now → IsUnderWay site among rests (unread old.inbox) u now to → IsUnderWay site among rests (unread old.inbox) u s.mid to
+    under_later : (u : UnderWay T) → apart s.mid now → IsUnderWay site among rests (unread old.read_buffer) u now to → IsUnderWay site among rests (unread old.read_buffer) u s.mid to
     under_later u gap w = record {
       head = w.head;
       asked = w.asked;
@@ -325,14 +325,14 @@ module _ {H K T : Type 0} (site : Site) (among : H → Method → List ℕ → R
       asks = record { file = w.asks.file; allowed = w.asks.allowed; named = w.asks.named; goes = λ o z r. later s.mid now z (method_of w.head.method) w.asks.file o gap (w.asks.goes o z r) };
     }
 
-    lands : (hand : Option (UnderWay T)) (x : StepSlice T) → HandOver came went hand (unread old.inbox) s.mid now
-        → StepsFrom site among rests tells hand now at (unread old.inbox) old.whole x (pending new) to after → SliceLands x old new → StandsHere came went new to after
+    lands : (hand : Option (UnderWay T)) (x : StepSlice T) → HandOver came went hand (unread old.read_buffer) s.mid now
+        → StepsFrom site among rests tells hand now at (unread old.read_buffer) old.whole x (pending new) to after → SliceLands x old new → StandsHere came went new to after
     lands None (slice.Did st) gap did l = stands_step now gap l.1 st did l.0
     lands None (slice.Works u) gap did l = stands_works u (under_later u gap did.0) did.1 did.2 l.0.still l.0.over l.1
     lands (Some v) (slice.Did st) way did l = stands_step s.mid (same s.mid) l.1 st (did s.mid way) l.0
     lands (Some v) (slice.Works u) way did l = (let d = did s.mid way in stands_works u d.0 d.1 d.2 l.0.still l.0.over l.1)
 
-    pub stands_lands : (x : StepSlice T) → StepsFrom site among rests tells old.hand now at (unread old.inbox) old.whole x (pending new) to after → SliceLands x old new
+    pub stands_lands : (x : StepSlice T) → StepsFrom site among rests tells old.hand now at (unread old.read_buffer) old.whole x (pending new) to after → SliceLands x old new
         → StandsHere came went new to after
     stands_lands x did l = lands old.hand x s.hand did l
 
@@ -366,12 +366,12 @@ module _ {H K T : Type 0} (site : Site) (among : H → Method → List ℕ → R
       goes_as start first came (came ++ []) went (went ++ []) r c now at (sym (append-nil came)) (sym (append-nil went)) (goes_any start first came went r c now at s)
 
   pub own_wrote : (r : Result Turned FrontKind) (old new : HttpConn T) (now to : H) (at : K) (n : ℕ) → to ≡ now → pending new ≡ drop n (pending old)
-      → new.inbox ≡ old.inbox → new.over ≡ old.over → new.hand ≡ old.hand → Own now at old [] (take n (pending old)) r new to at
-  own_wrote r old new now to at n still left inbox over hand start first came went s =
+      → new.read_buffer ≡ old.read_buffer → new.over ≡ old.over → new.hand ≡ old.hand → Own now at old [] (take n (pending old)) r new to at
+  own_wrote r old new now to at n still left read_buffer over hand start first came went s =
       goes_as start first came (came ++ []) (went ++ take n (pending old)) (went ++ take n (pending old)) r new to at (sym (append-nil came)) refl
-      (goes_any start first came (went ++ take n (pending old)) r new to at (stands_wrote site among rests tells apart start first came went old new now to at n still left inbox over hand s))
+      (goes_any start first came (went ++ take n (pending old)) r new to at (stands_wrote site among rests tells apart start first came went old new now to at n still left read_buffer over hand s))
 
-  pub own_read : (r : Result Turned FrontKind) (old new : HttpConn T) (now : H) (at : K) (bytes : List ℕ) → OnOk r (unread new.inbox ≡ unread old.inbox ++ bytes)
+  pub own_read : (r : Result Turned FrontKind) (old new : HttpConn T) (now : H) (at : K) (bytes : List ℕ) → OnOk r (unread new.read_buffer ≡ unread old.read_buffer ++ bytes)
       → pending new ≡ pending old → new.over ≡ old.over → old.over ≡ false → new.hand ≡ old.hand → old.hand ≡ None → Own now at old bytes [] r new now at
   own_read (Ok t) old new now at bytes added still over was hand idle start first came went s =
       goes_as start first (came ++ bytes) (came ++ bytes) went (went ++ []) (Ok t) new now at refl (sym (append-nil went))
@@ -381,7 +381,7 @@ module _ {H K T : Type 0} (site : Site) (among : H → Method → List ℕ → R
       (cut_read site among rests tells apart start first came went bytes old now at was s)
 
   pub own_step : (r : Result Turned FrontKind) (old new : HttpConn T) (now to : H) (at after : K) → pending old ≡ [] → old.over ≡ false
-      → OnOk r ((x : StepSlice T) × StepsFrom site among rests tells old.hand now at (unread old.inbox) old.whole x (pending new) to after × SliceLands x old new) → Own now at old [] [] r new to after
+      → OnOk r ((x : StepSlice T) × StepsFrom site among rests tells old.hand now at (unread old.read_buffer) old.whole x (pending new) to after × SliceLands x old new) → Own now at old [] [] r new to after
   own_step (Ok t) old new now to at after none was did start first came went s =
       goes_as start first came (came ++ []) went (went ++ []) (Ok t) new to after (sym (append-nil came)) (sym (append-nil went))
       (stands_lands site among rests tells apart start first same later came went old new now to at after none was s did.0 did.1 did.2)

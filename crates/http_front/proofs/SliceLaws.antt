@@ -302,9 +302,9 @@ module _ {F R : Type 0} {g : Ghosts R Stored} (device : F → Device) (number : 
     pub not_begun : (method : Method) (name : List ℕ) (why : Refusal) (o : RequestOutcome) → lack_of why ≡ None → IsUnserved (Some (failure.Refused why)) o
         → HappenedInAny device old mid number event.Begin (Refused why)
         → MakesSlice device number (λ way b c. ComesIn way b c number method name) old (Ok (slice.Done o)) mid
-    not_begun method name why o well bare h way =
+    not_begun method name why o well without_body h way =
         leads_as device old mid (λ b c s t. Answers b c number event.Begin s (Refused why) t) (λ b c s t. ComesIn way b c number method name s o t)
-        (λ b c s t a. record { answer = Some why; mid = t; acts = now_acts way b c number event.Begin (Refused why) s t a; inits = (well, bare, refl) })
+        (λ b c s t a. record { answer = Some why; mid = t; acts = now_acts way b c number event.Begin (Refused why) s t a; inits = (well, without_body, refl) })
         (by_event device old mid number event.Begin (Refused why) h)
 
   -- over hosts

@@ -1,4 +1,4 @@
--- A connection that is there stays there at its own events, and its close is refused for want of memory alone.
+-- A connection that is there stays there at its own events, and its close is refused for lack of memory alone.
 use Rattle.std.proofs.Common.{◌≡◌, ℕ, ◌+◌, Bool, true, false, List, [], ◌∷◌, Option, Some, None, Result, Ok, Err, sym, subst, ap}
 use Rattle.module_code.specs.Program.{Program}
 use Rattle.run_model.specs.declared.event.Event.{Event}

@@ -99,13 +99,13 @@ not_empty (x ∷ xs) test none = cc
 -- more bytes come, and there is room for them
 more_wider : (seen : List ℕ) (whole : Bool) → (whole && nat_le (length seen) head_limit) ≡ false → WantsMore (take head_limit seen)
     → (whole ≡ false) × WantsMore seen
-more_wider seen true is wants =
-    let fits : length seen ≤ head_limit = omega (arith, wants.few, length-take head_limit seen) in
+more_wider seen true is needs_input =
+    let fits : length seen ≤ head_limit = omega (arith, needs_input.few, length-take head_limit seen) in
     let yes = le-leb (length seen) head_limit fits in
     absurd (so_not is yes)
-more_wider seen false is wants =
-    let fits : length seen ≤ head_limit = omega (arith, wants.few, length-take head_limit seen) in
-    (refl, subst WantsMore (take_all head_limit seen fits) wants)
+more_wider seen false is needs_input =
+    let fits : length seen ≤ head_limit = omega (arith, needs_input.few, length-take head_limit seen) in
+    (refl, subst WantsMore (take_all head_limit seen fits) needs_input)
 
 -- what a front of the bytes begins with, they begin with
 begins_before : (seen : List ℕ) (h : RequestHead) (rest : List ℕ) → BeginsWithin head_limit fields_limit (take head_limit seen) h rest
@@ -124,12 +124,12 @@ answer_wider seen whole (inr bad) = inr ((λ none. bad.0 (ap (take head_limit) n
 module _ {H : Type 0} (site : Site) (lacks : H → Method → List ℕ → FrontKind → H → Type 0) (old new : H) where
   lack_before : (seen : List ℕ) (whole : Bool) (e : FrontKind) → LacksAnswer site lacks old (take head_limit seen) (whole && nat_le (length seen) head_limit) new e
       → LacksAnswer site lacks old seen whole new e
-  lack_before seen whole kind.NoMemory wants = answer_wider seen whole wants
-  lack_before seen whole kind.NamesSpent wants = record {
-    head = wants.head;
-    rest = wants.rest ++ drop head_limit seen;
-    begins = begins_before seen wants.head wants.rest wants.begins;
-    names = wants.names;
+  lack_before seen whole kind.NoMemory needs_input = answer_wider seen whole needs_input
+  lack_before seen whole kind.NamesSpent needs_input = record {
+    head = needs_input.head;
+    rest = needs_input.rest ++ drop head_limit seen;
+    begins = begins_before seen needs_input.head needs_input.rest needs_input.begins;
+    names = needs_input.names;
   }
   lack_before seen whole e lack = absurd lack
 

@@ -18,7 +18,7 @@ use Rattle.http_front.specs.declared.steps.ServeStep.TheVariants as step
 use Rattle.http_front.specs.declared.under_way.StepSlice.{StepSlice}
 use Rattle.http_front.specs.declared.under_way.StepSlice.TheVariants as slice
 use Rattle.http_front.specs.declared.under_way.UnderWay.{UnderWay}
-use Rattle.http_message.specs.Inboxes.{unread}
+use Rattle.http_message.specs.ReadBuffers.{unread}
 use Rattle.http_front.specs.Talking.{CountsOn, FailsAs, StepFollows, IsNext, SliceLands, WantsSo, pending}
 use Rattle.http_front.specs.declared.http_conn.Next.{Next}
 use Rattle.http_front.specs.declared.http_conn.Next.TheVariants as next
@@ -139,7 +139,7 @@ lengths_of_none a b c none =
 
 -- what a turn leaves of what is wanted, and of the count
 module _ {A E T : Type 0} (r : Result A E) (c d : HttpConn T) where
-  pub wants_kept : (d.wants ≡ true → c.wants ≡ true) → OnOk r (WantsSo c d)
+  pub wants_kept : (d.needs_input ≡ true → c.needs_input ≡ true) → OnOk r (WantsSo c d)
   wants_kept kept = on_ok r (λ none is. inl (kept is))
 
   pub count_kept : d.requests ≡ c.requests → OnOk r (CountsOn c d)
@@ -158,18 +158,18 @@ module _ {T : Type 0} (c d : HttpConn T) where
 
   module _ {H K : Type 0} (site : Site) (among : H → Method → List ℕ → RequestOutcome → H → Type 0) (rests : H → T → RequestOutcome → H → Type 0)
       (tells : K → Said → K → Type 0) (now new : H) (before after : K) (whole : Bool) (text : List ℕ) where
-    wants_step : (s : ServeStep) → DoesStep site among tells now before (unread c.inbox) whole s text new after → StepFollows s c d → d.wants ≡ true → (c.wants ≡ true) ⊎ WantsMore (unread d.inbox)
+    wants_step : (s : ServeStep) → DoesStep site among tells now before (unread c.read_buffer) whole s text new after → StepFollows s c d → d.needs_input ≡ true → (c.needs_input ≡ true) ⊎ WantsMore (unread d.read_buffer)
     wants_step step.More did f is = inr (subst WantsMore (sym f.still) did.1)
-    wants_step s did f is = inl (sym f.wants ∙ is)
+    wants_step s did f is = inl (sym f.needs_input ∙ is)
 
-    wants_slice : (hand : Option (UnderWay T)) (x : StepSlice T) → StepsFrom site among rests tells hand now before (unread c.inbox) whole x text new after
-        → SliceLands x c d → hand ≡ None → d.wants ≡ true → (c.wants ≡ true) ⊎ WantsMore (unread d.inbox)
+    wants_slice : (hand : Option (UnderWay T)) (x : StepSlice T) → StepsFrom site among rests tells hand now before (unread c.read_buffer) whole x text new after
+        → SliceLands x c d → hand ≡ None → d.needs_input ≡ true → (c.needs_input ≡ true) ⊎ WantsMore (unread d.read_buffer)
     wants_slice None (slice.Did s) did l none is = wants_step s did l.0 is
-    wants_slice hand (slice.Works u) did l none is = inl (sym l.0.wants ∙ is)
+    wants_slice hand (slice.Works u) did l none is = inl (sym l.0.needs_input ∙ is)
     wants_slice (Some u) (slice.Did s) did l none is = absurd (cc)
 
     abbrev TurnMade : Type 0
-    TurnMade = (x : StepSlice T) × StepsFrom site among rests tells c.hand now before (unread c.inbox) whole x text new after × SliceLands x c d
+    TurnMade = (x : StepSlice T) × StepsFrom site among rests tells c.hand now before (unread c.read_buffer) whole x text new after × SliceLands x c d
 
     pub wants_made : {A E : Type 0} (r : Result A E) → OnOk r TurnMade → OnOk r (WantsSo c d)
     wants_made (Ok y) m = λ none is. wants_slice c.hand m.0 m.1 m.2 none is
@@ -188,7 +188,7 @@ slice_next c n at writes over = (at.0, at.1)
 -- A slice fails by a lack.
 pub slice_fails : {H T : Type 0} (site : Site) (lacks : H → Method → List ℕ → FrontKind → H → Type 0) (lacks_rest : H → T → FrontKind → H → Type 0) (limit : ℕ) (r q : Option (List ℕ))
     (now new : H) (c : HttpConn T) (n : Next) (e : FrontKind) → ¬ (n ≡ next.Writes) → ¬ (n ≡ next.Over) → ¬ (n ≡ next.Reads)
-    → LacksSlice site lacks lacks_rest c.hand now (unread c.inbox) c.whole new e → FailsAs site lacks lacks_rest limit r q now new n c e
+    → LacksSlice site lacks lacks_rest c.hand now (unread c.read_buffer) c.whole new e → FailsAs site lacks lacks_rest limit r q now new n c e
 slice_fails site lacks lacks_rest limit r q now new c next.Writes e writes over reads how = absurd (writes refl)
 slice_fails site lacks lacks_rest limit r q now new c next.Over e writes over reads how = absurd (over refl)
 slice_fails site lacks lacks_rest limit r q now new c next.Reads e writes over reads how = absurd (reads refl)

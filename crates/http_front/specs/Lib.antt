@@ -6,7 +6,7 @@ pub use Rattle.http_message.specs.Replying
 pub use Rattle.http_message.specs.Clocks
 pub use Rattle.http_message.specs.Routes
 pub use Rattle.http_message.specs.Sites
-pub use Rattle.http_message.specs.Inboxes
+pub use Rattle.http_message.specs.ReadBuffers
 pub mod Texts
 pub mod Outcomes
 pub mod Turns
@@ -17,6 +17,8 @@ pub mod Driven
 pub mod Nearing
 pub mod Among
 pub mod Connecting
+pub mod SameResponses
+pub mod OneStream
 pub mod Serving
 pub mod Rows
 pub mod FeedRows

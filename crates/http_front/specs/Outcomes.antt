@@ -2,7 +2,7 @@
 use Rattle.std.specs.Prelude.{◌≡◌, true, ◌||◌, List, [], ℕ, Option, Some, None, ◌⊎◌}
 use Rattle.httparse.specs.Grammar.{RequestHead}
 use Rattle.percent_encoding.specs.Percent.{percent_decode}
-use Rattle.http_message.specs.Asking.{method_of, target_path, refusal, head_closes, status_closes, version_of}
+use Rattle.http_message.specs.Asking.{method_of, target_path, head_refusal, head_closes, status_closes, version_of}
 use Rattle.http_message.specs.declared.failure.Failure.{Failure}
 use Rattle.http_message.specs.declared.reply.Method.{Method}
 use Rattle.http_message.specs.declared.reply.Method.TheVariants.{Other}
@@ -37,7 +37,7 @@ module _ {H : Type 0} (lacks : H → Method → List ℕ → FrontKind → H →
 
   -- Names are lacking for a head: nothing refuses it, its path has a file, and names are lacking for a request for that.
   abbrev pub LacksNamesAt : Site → H → RequestHead → H → Type 0
-  LacksNamesAt site old h new = (refusal h ≡ None) × LacksNamesFor (file_of site h) old (method_of h.method) new
+  LacksNamesAt site old h new = (head_refusal h ≡ None) × LacksNamesFor (file_of site h) old (method_of h.method) new
 
 -- the outcome is this status, without content
 abbrev pub IsStatusOnly : StatusCode → RequestOutcome → Type 0

@@ -8,7 +8,7 @@ pub use Rattle.run_model.specs.declared.event.Event.TheVariants.{Open}
 pub use Rattle.filter_chain.specs.HostViews.{Answers, HostView}
 pub use Rattle.http_message.specs.Asking.{method_of}
 pub use Rattle.http_message.specs.Clocks.{IsExchange}
-pub use Rattle.http_message.specs.Inboxes.{unread}
+pub use Rattle.http_message.specs.ReadBuffers.{unread}
 pub use Rattle.http_message.specs.Looking.{IsHeadFound}
 pub use Rattle.http_message.specs.Replying.{IsDateLine, reply_text}
 pub use Rattle.http_message.specs.declared.site.Site.{Site}
@@ -18,6 +18,7 @@ pub use Rattle.http_front.specs.Connecting.{ClosesTurns, IsClosed, IsConnOpened,
 pub use Rattle.http_front.specs.Connecting.{outcome_of}
 pub use Rattle.http_front.specs.Driven.{HasConn, IsAlive, LacksFor, NoEventsOf, OnlyEventsOf, Refines, StepsAtMost}
 pub use Rattle.http_front.specs.Nearing.{slice_steps}
+pub use Rattle.http_front.specs.OneStream.{IsOnlyStreamFor}
 pub use Rattle.http_front.specs.Outcomes.{IsLack, IsReplyTo, IsUnserved, LacksNamesAt}
 pub use Rattle.http_front.specs.Requests.{ComesOf, EndsRequest, RunsCall, TakesOutput, ended_of, lack_of, unopened}
 pub use Rattle.http_front.specs.Serving.{BlamesSink, BlamesSource, EndsWell, FailsBy, ServeGoes, ServedSoFar}

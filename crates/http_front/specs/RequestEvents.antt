@@ -86,7 +86,7 @@ abbrev pub IsOutput : Result (List ℕ) Refusal → RequestOutcome → Type 0
 IsOutput (Ok bytes) o = (o.status ≡ Success) × (o.body ≡ bytes) × (o.failure ≡ None)
 IsOutput (Err r) o = IsUnserved (Some (failure.Refused r)) o
 
--- an event of a request that may be refused for want of memory or names
+-- an event of a request that may be refused for lack of memory or names
 abbrev pub IsOfRequest : Event → Type 0
 IsOfRequest event.Begin = Unit {0}
 IsOfRequest (event.OpenFile name) = Unit {0}

@@ -2,7 +2,7 @@
 use Rattle.std.specs.Prelude.{◌≡◌, ℕ, ◌||◌, Bool, true, false, List, [], ◌∷◌, ◌++◌, length, replicate, Option, Some, None, codes}
 use Rattle.httparse.specs.Grammar.{crlf, Field, RequestHead, print_request}
 use Rattle.percent_encoding.specs.Percent.{percent_decode}
-use Rattle.http_message.specs.Asking.{method_of, refusal, head_closes, status_closes, target_path, version_of}
+use Rattle.http_message.specs.Asking.{method_of, head_refusal, head_closes, status_closes, target_path, version_of}
 use Rattle.http_message.specs.Heads.{IsHeadlessWithin}
 use Rattle.http_message.specs.Replying.{IsDateLine, reply_text, size_line}
 use Rattle.http_message.specs.Sites.{route_of}
@@ -68,7 +68,7 @@ with_length raw = asks (codes "GET") (codes "/a") 1 (host ∷ line (codes "Conte
 
 -- what a head asks for, whatever files there are: the status that refuses it, that its client wants no further request, and the path as it was sent
 abbrev pub Asks : RequestHead → Option StatusCode → Bool → Option (List ℕ) → Type 0
-Asks h refused closes path = (refusal h ≡ refused) × (head_closes h ≡ closes) × (target_path h.target ≡ path)
+Asks h refused closes path = (head_refusal h ≡ refused) × (head_closes h ≡ closes) × (target_path h.target ≡ path)
 
 -- Responses.
 
@@ -80,8 +80,8 @@ date = codes "Date: Sun, 06 Nov 1994 08:49:37 GMT\r\n"
 abbrev pub served : List ℕ → RequestOutcome
 served bytes = record { status = Success; body = bytes; failure = None }
 
-abbrev pub bare : StatusCode → RequestOutcome
-bare status = record { status = status; body = []; failure = None }
+abbrev pub without_body : StatusCode → RequestOutcome
+without_body status = record { status = status; body = []; failure = None }
 
 abbrev pub failed : Failure → RequestOutcome
 failed why = record { status = InternalServerError; body = []; failure = Some why }
@@ -110,7 +110,7 @@ IsAnswered h o text closes = (reply_text (reply_of h o) date ≡ text) × ((repl
 pub record RepliesAreThese : Type 0 where
   pub reply : (h : RequestHead) (o : RequestOutcome) (r : Reply) → IsReplyTo h o r → r ≡ reply_of h o
   pub bad : (r : Reply) → IsBadReply r → r ≡ bad_reply
-  pub without : (status : StatusCode) (o : RequestOutcome) → IsStatusOnly status o → o ≡ bare status
+  pub without : (status : StatusCode) (o : RequestOutcome) → IsStatusOnly status o → o ≡ without_body status
   pub unserved : (why : Failure) (o : RequestOutcome) → IsUnserved (Some why) o → o ≡ failed why
   pub dated : (text : List ℕ) → IsDateLine 784111777 text → text ≡ date
 
@@ -136,7 +136,7 @@ pub record HttpHead : Type 0 where
 pub record HttpBadHead : Type 0 where
   pub sent : print_request no_host ≡ codes "GET /a HTTP/1.1\r\n\r\n"
   pub asks : Asks no_host (Some BadRequest) false (Some (codes "/a"))
-  pub answered : IsAnswered no_host (bare BadRequest) (codes "HTTP/1.1 400 Bad Request\r\nDate: Sun, 06 Nov 1994 08:49:37 GMT\r\nConnection: close\r\nContent-Length: 0\r\n\r\n") true
+  pub answered : IsAnswered no_host (without_body BadRequest) (codes "HTTP/1.1 400 Bad Request\r\nDate: Sun, 06 Nov 1994 08:49:37 GMT\r\nConnection: close\r\nContent-Length: 0\r\n\r\n") true
 
 -- 63 further lines are within the limit, and 64 are not.
 pub record HttpManyFields : Type 0 where
@@ -153,14 +153,14 @@ pub record Http10 : Type 0 where
 
 pub record HttpMethods : Type 0 where
   pub post_asks : Asks post (Some MethodNotAllowed) false (Some (codes "/a"))
-  pub post_answered : IsAnswered post (bare MethodNotAllowed) (codes "HTTP/1.1 405 Method Not Allowed\r\nDate: Sun, 06 Nov 1994 08:49:37 GMT\r\nAllow: GET, HEAD\r\nContent-Length: 0\r\n\r\n") false
+  pub post_answered : IsAnswered post (without_body MethodNotAllowed) (codes "HTTP/1.1 405 Method Not Allowed\r\nDate: Sun, 06 Nov 1994 08:49:37 GMT\r\nAllow: GET, HEAD\r\nContent-Length: 0\r\n\r\n") false
   pub brew_asks : Asks brew (Some NotImplemented) false (Some (codes "/a"))
-  pub brew_answered : IsAnswered brew (bare NotImplemented) (codes "HTTP/1.1 501 Not Implemented\r\nDate: Sun, 06 Nov 1994 08:49:37 GMT\r\nContent-Length: 0\r\n\r\n") false
+  pub brew_answered : IsAnswered brew (without_body NotImplemented) (codes "HTTP/1.1 501 Not Implemented\r\nDate: Sun, 06 Nov 1994 08:49:37 GMT\r\nContent-Length: 0\r\n\r\n") false
 
 pub record HttpMissing : Type 0 where
   pub asks : Asks get_missing None false (Some (codes "/b"))
   pub file : (site : Site) → file_of site get_missing ≡ route_of site (codes "/b")
-  pub answered : IsAnswered get_missing (bare NotFound) (codes "HTTP/1.1 404 Not Found\r\nDate: Sun, 06 Nov 1994 08:49:37 GMT\r\nContent-Length: 0\r\n\r\n") false
+  pub answered : IsAnswered get_missing (without_body NotFound) (codes "HTTP/1.1 404 Not Found\r\nDate: Sun, 06 Nov 1994 08:49:37 GMT\r\nContent-Length: 0\r\n\r\n") false
 
 -- A connection that is broken, and a filter that answers that it failed.
 pub record HttpFailing : Type 0 where
@@ -177,7 +177,7 @@ pub record HttpLargeFile : Type 0 where
 
 pub record HttpRequestBody : Type 0 where
   pub asks : Asks (with_length (codes " 3")) (Some ContentTooLarge) false (Some (codes "/a"))
-  pub answered : IsAnswered (with_length (codes " 3")) (bare ContentTooLarge)
+  pub answered : IsAnswered (with_length (codes " 3")) (without_body ContentTooLarge)
       (codes "HTTP/1.1 413 Content Too Large\r\nDate: Sun, 06 Nov 1994 08:49:37 GMT\r\nConnection: close\r\nContent-Length: 0\r\n\r\n") true
   pub none_asks : Asks (with_length (codes " 0")) None false (Some (codes "/a"))
   pub none_reply : (o : RequestOutcome) → reply_of (with_length (codes " 0")) o ≡ reply_of get o

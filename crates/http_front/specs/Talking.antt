@@ -1,7 +1,7 @@
 -- How far a connection is that is served beside others.
 use Rattle.std.specs.Prelude.{◌≡◌, ℕ, ◌+◌, min, Bool, true, false, List, [], ◌++◌, ◌⊎◌, length, drop, Option, Some, None, Result, Ok, Err}
 use Rattle.http_message.specs.Clocks.{Said}
-use Rattle.http_message.specs.Inboxes.{unread}
+use Rattle.http_message.specs.ReadBuffers.{unread}
 use Rattle.http_message.specs.declared.reply.Method.{Method}
 use Rattle.http_message.specs.declared.site.Site.{Site}
 use Rattle.http_front.specs.Sharing.{IsSo, Passes, TellsLater}
@@ -29,8 +29,8 @@ pending c = drop c.sent (text_of c.text)
 abbrev pub IsNext : {T : Type 0} → HttpConn T → Next → Type 0
 IsNext c next.Writes = ¬ (pending c ≡ [])
 IsNext c next.Over = (pending c ≡ []) × (c.over ≡ true)
-IsNext c next.Reads = (pending c ≡ []) × (c.over ≡ false) × (c.wants ≡ true) × (c.hand ≡ None)
-IsNext c next.Steps = (pending c ≡ []) × (c.over ≡ false) × (c.wants ≡ false) × (c.hand ≡ None)
+IsNext c next.Reads = (pending c ≡ []) × (c.over ≡ false) × (c.needs_input ≡ true) × (c.hand ≡ None)
+IsNext c next.Steps = (pending c ≡ []) × (c.over ≡ false) × (c.needs_input ≡ false) × (c.hand ≡ None)
 IsNext c next.Works = (pending c ≡ []) × (c.over ≡ false) × ¬ (c.hand ≡ None)
 
 -- among: what a request comes to, beside others. rests: what is left of one does. apart: only what belongs to other connections happened. start, first: the
@@ -47,8 +47,8 @@ module _ {H K T : Type 0} (site : Site) (among : H → Method → List ℕ → R
   pub record ConnStands (c : HttpConn T) (now : H) (at : K) : Type 0 where
     pub mid : H
     pub then : K
-    pub so : IsSo site among (TellsLater tells) start first came c.over (went ++ pending c) (unread c.inbox) mid then
-    pub hand : IsInHand c.hand (unread c.inbox) mid now
+    pub so : IsSo site among (TellsLater tells) start first came c.over (went ++ pending c) (unread c.read_buffer) mid then
+    pub hand : IsInHand c.hand (unread c.read_buffer) mid now
     pub passed : Passes tells then at
 
   -- What went is a front of the responses to what came.
@@ -67,8 +67,8 @@ module _ {H K T : Type 0} (site : Site) (among : H → Method → List ℕ → R
 
 -- what is left behind a step, whether more bytes are wanted, whether no more is answered, and how many responses were made
 pub record FollowsAs {T : Type 0} (left : List ℕ) (reads ends : Bool) (count : ℕ) (new : HttpConn T) : Type 0 where
-  pub still : unread new.inbox ≡ left
-  pub wants : new.wants ≡ reads
+  pub still : unread new.read_buffer ≡ left
+  pub needs_input : new.needs_input ≡ reads
   pub over : new.over ≡ ends
   pub counted : new.requests ≡ count
 
@@ -77,20 +77,20 @@ abbrev pub one_more : ℕ → ℕ
 one_more n = min (n + 1) 18446744073709551615
 
 abbrev pub StepFollows : {T : Type 0} → ServeStep → HttpConn T → HttpConn T → Type 0
-StepFollows (step.Stays size) old new = FollowsAs (drop size (unread old.inbox)) old.wants false (one_more old.requests) new
-StepFollows (step.Closes size) old new = FollowsAs (drop size (unread old.inbox)) old.wants true (one_more old.requests) new
-StepFollows step.Refused old new = FollowsAs (unread old.inbox) old.wants true (one_more old.requests) new
-StepFollows step.More old new = FollowsAs (unread old.inbox) true false old.requests new
-StepFollows step.Done old new = FollowsAs (unread old.inbox) old.wants true old.requests new
+StepFollows (step.Stays size) old new = FollowsAs (drop size (unread old.read_buffer)) old.needs_input false (one_more old.requests) new
+StepFollows (step.Closes size) old new = FollowsAs (drop size (unread old.read_buffer)) old.needs_input true (one_more old.requests) new
+StepFollows step.Refused old new = FollowsAs (unread old.read_buffer) old.needs_input true (one_more old.requests) new
+StepFollows step.More old new = FollowsAs (unread old.read_buffer) true false old.requests new
+StepFollows step.Done old new = FollowsAs (unread old.read_buffer) old.needs_input true old.requests new
 
 -- what follows a slice: a step is made, and nothing is in hand; or a request is
 abbrev pub SliceLands : {T : Type 0} → StepSlice T → HttpConn T → HttpConn T → Type 0
 SliceLands (slice.Did s) old new = StepFollows s old new × (new.hand ≡ None)
-SliceLands (slice.Works u) old new = FollowsAs (unread old.inbox) old.wants false old.requests new × (new.hand ≡ Some u)
+SliceLands (slice.Works u) old new = FollowsAs (unread old.read_buffer) old.needs_input false old.requests new × (new.hand ≡ Some u)
 
 -- Where no request was in hand, more bytes are wanted only where those at hand begin with no head yet, or where they were wanted.
 abbrev pub WantsSo : {T : Type 0} → HttpConn T → HttpConn T → Type 0
-WantsSo old new = old.hand ≡ None → new.wants ≡ true → (old.wants ≡ true) ⊎ WantsMore (unread new.inbox)
+WantsSo old new = old.hand ≡ None → new.needs_input ≡ true → (old.needs_input ≡ true) ⊎ WantsMore (unread new.read_buffer)
 
 -- One response more was made, or none.
 abbrev pub CountsOn : {T : Type 0} → HttpConn T → HttpConn T → Type 0
@@ -103,7 +103,7 @@ unless_so false = 1
 
 -- what is left to be done with the bytes at hand, at most
 abbrev pub to_do : {T : Type 0} → HttpConn T → ℕ
-to_do c = length (unread c.inbox) + unless_so c.wants + unless_so c.over
+to_do c = length (unread c.read_buffer) + unless_so c.needs_input + unless_so c.over
 
 -- How a turn fails, by what the connection waited for. limit: the bytes of a read, at most. r, q: what the reader had left, and has. now, new: the handler before
 -- the turn, and after it
@@ -112,8 +112,8 @@ module _ {H T : Type 0} (site : Site) (lacks : H → Method → List ℕ → Fro
   FailsAs next.Writes c e = IsSinkKind e
   FailsAs next.Over c e = ⊥
   FailsAs next.Reads c e = Loses limit r q e
-  FailsAs next.Steps c e = LacksSlice site lacks lacks_rest c.hand now (unread c.inbox) c.whole new e
-  FailsAs next.Works c e = LacksSlice site lacks lacks_rest c.hand now (unread c.inbox) c.whole new e
+  FailsAs next.Steps c e = LacksSlice site lacks lacks_rest c.hand now (unread c.read_buffer) c.whole new e
+  FailsAs next.Works c e = LacksSlice site lacks lacks_rest c.hand now (unread c.read_buffer) c.whole new e
 
   -- what it waited for, and how it failed
   abbrev pub Fails : HttpConn T → FrontKind → Type 0

@@ -2,7 +2,7 @@
 use Rattle.std.specs.Prelude.{◌≡◌, ℕ, ◌<◌, ◌≤◌, ◌+◌, Bool, true, false, List, [], ◌∷◌, ◌++◌, Option, Some, None, ◌⊎◌, length}
 use Rattle.std.specs.List.{flat_map}
 use Rattle.httparse.specs.Grammar.{RequestHead, IsRequestHead, MayBecomeRequest, print_request}
-use Rattle.http_message.specs.Asking.{method_of, refusal}
+use Rattle.http_message.specs.Asking.{method_of, head_refusal}
 use Rattle.http_message.specs.Clocks.{Said, Moment, IsNoted}
 use Rattle.http_message.specs.Heads.{BeginsWithin, IsHeadlessWithin, StaysHeadless}
 use Rattle.http_message.specs.Replying.{reply_text, IsDateLine}
@@ -91,7 +91,7 @@ module _ {H K : Type 0} (site : Site) (handles : H → Method → List ℕ → R
     pub valid : IsRequestHead t.head
     pub within : IsWithinLimits t.head
     pub outcome : RequestOutcome
-    pub comes : ComesUnless site handles (refusal t.head) old t.head outcome new
+    pub comes : ComesUnless site handles (head_refusal t.head) old t.head outcome new
     pub reply : IsReplyTo t.head outcome t.reply
     pub then : K
     pub dated : IsDated tells before t.date then
@@ -176,7 +176,7 @@ module _ {H K : Type 0} (site : Site) (handles : H → Method → List ℕ → R
     pub n : ℕ
     pub splits : stream ≡ first ++ seen ++ unread
     pub responses : EndsAll old before first text n new after
-    pub wants : WantsMore seen
+    pub needs_input : WantsMore seen
     pub leaves : left ≡ Some unread
 
   -- These are the responses to all requests before the one that is at hand. seen: what was read and not answered. left: what the reader has left.
@@ -204,7 +204,7 @@ module _ {H K : Type 0} (site : Site) (handles : H → Method → List ℕ → R
     pub few : length lost ≤ 8192
     pub splits : stream ≡ first ++ seen ++ lost ++ unread
     pub responses : EndsAll old before first text n new after
-    pub wants : WantsMore seen
+    pub needs_input : WantsMore seen
     pub leaves : left ≡ Some unread
 
   -- These are the responses to the first requests of a stream, and a part of one response more: that is cut. Its request was handled, too.

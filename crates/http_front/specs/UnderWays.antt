@@ -3,7 +3,7 @@ use Rattle.std.specs.Prelude.{◌≡◌, ℕ, ◌*◌, ◌≤◌, ◌⊎◌, Boo
 use Rattle.httparse.specs.Grammar.{RequestHead}
 use Rattle.httparse.specs.Spans.{IsRequestAt, IsRequestWithin}
 use Rattle.httparse.specs.declared.spans.HeaderSpan.{HeaderSpan}
-use Rattle.http_message.specs.Asking.{head_closes, method_of, refusal}
+use Rattle.http_message.specs.Asking.{head_closes, method_of, head_refusal}
 use Rattle.http_message.specs.Clocks.{Said}
 use Rattle.http_message.specs.Heads.{BeginsWithin}
 use Rattle.http_message.specs.declared.reply.Method.{Method}
@@ -43,8 +43,8 @@ WantsPath site h (wanted.File file) = file_of site h ≡ Some file.now
 
 -- A head gets the status that refuses it, or asks for the file at its path.
 abbrev pub Wants : Site → RequestHead → SiteTarget → Type 0
-Wants site h (wanted.Status status) = (refusal h ≡ Some status) ⊎ ((refusal h ≡ None) × WantsPath site h (wanted.Status status))
-Wants site h (wanted.File file) = (refusal h ≡ None) × WantsPath site h (wanted.File file)
+Wants site h (wanted.Status status) = (head_refusal h ≡ Some status) ⊎ ((head_refusal h ≡ None) × WantsPath site h (wanted.Status status))
+Wants site h (wanted.File file) = (head_refusal h ≡ None) × WantsPath site h (wanted.File file)
 
 -- A request of this length is answered, and the connection closes or not.
 abbrev pub RequestAnswered : Bool → ℕ → ServeStep → Type 0
@@ -63,13 +63,13 @@ module _ {H T : Type 0} (site : Site) (among : H → Method → List ℕ → Req
   -- handler before the request, and now
   pub record Asks (head : RequestHead) (task : T) (old now : H) : Type 0 where
     pub file : List ℕ
-    pub allowed : refusal head ≡ None
+    pub allowed : head_refusal head ≡ None
     pub named : file_of site head ≡ Some file
     pub goes : (o : RequestOutcome) (new : H) → rests now task o new → among old (method_of head.method) file o new
 
   -- what a head comes to in a slice
   abbrev pub BeginsHead : RequestHead → H → Slice T → H → Type 0
-  BeginsHead h old (request.Done o) now = ComesUnless site among (refusal h) old h o now
+  BeginsHead h old (request.Done o) now = ComesUnless site among (head_refusal h) old h o now
   BeginsHead h old (request.Works task) now = Asks h task old now
 
   -- The bytes begin with a head whose request is under way.

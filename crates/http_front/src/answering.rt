@@ -9,7 +9,7 @@ use filter_chain::BlockBytes;
 use http_message::{Method, Reply, StatusCode, Version, status_closes};
 use std::alloc::Global;
 
-pub(crate) fn bare(alloc: Global, status: StatusCode) -> RequestOutcome
+pub(crate) fn without_body(alloc: Global, status: StatusCode) -> RequestOutcome
     ensures { IsStatusOnly status result }
 {
     RequestOutcome {

@@ -1,7 +1,7 @@
 //! A connection of the host, from its opening to its close.
 
 ghost use Rattle.http_front.specs.Prelude.{reads_left, source_of, Program, Connected, Refused, Open, HostView, Answers, kind_result, ClosesTurns, ServingFails, IsClosed, IsConnOpened, ServesAll};
-ghost use Rattle.http_front.specs.Prelude.{Visits, kind_of, outcome_of, BlamesSink, BlamesSource, HasConn, IsAlive, NoEventsOf, Refines};
+ghost use Rattle.http_front.specs.Prelude.{IsOnlyStreamFor, Visits, kind_of, outcome_of, BlamesSink, BlamesSource, HasConn, IsAlive, NoEventsOf, Refines};
 ghost use Rattle.std.specs.Prelude.{◌≡◌, ◌≢◌, ◌↔◌, ℕ, List, IfOk, IfErr, IfSome, IsTrue};
 
 use crate::fault::{FrontFault, FrontKind, Served};
@@ -103,7 +103,8 @@ fn outcome_of(served: Result<Served, FrontKind>, left: Option<u64>) -> Result<Se
 /// `NoMemory` then where all else went well.
 ///
 /// Whatever source and sink are, nothing happens to the host but the opening of one connection, events of it, and its close. What is written is promised
-/// where it is known what the source had left and what the sink holds, as of a slice and a `Vec`.
+/// where it is known what the source had left and what the sink holds, as of a slice and a `Vec`. Over files that are all known, as files in
+/// memory are, it is the only stream of responses (`only`), each with its own Date line, up to the first 500 whose failure is that memory was refused.
 pub fn serve<S: Source, W: Sink, F: Files + Drop, R: Rings<Stored> + Drop, K: Clock>(
     alloc: Global,
     reader: &mut CountedSource<S>,
@@ -117,6 +118,8 @@ pub fn serve<S: Source, W: Sink, F: Files + Drop, R: Rings<Stored> + Drop, K: Cl
     ensures visits { Visits F.device K.tells site.now host.old result host.new }
     ensures ok { IfOk result (λ s. IfSome (S.remaining (source_of reader.old))
         (λ stream. ServesAll F.device K.tells site.now host.old clock.old stream s.requests (W.contents sink.old) (W.contents sink.new) host.new clock.new)) }
+    ensures only { IfOk result (λ s. IfSome (S.remaining (source_of reader.old))
+        (λ stream. IsOnlyStreamFor F.device K.tells site.now host.old clock.old stream s.requests (W.contents sink.old) (W.contents sink.new) host.new clock.new)) }
     ensures err { IfErr result (λ e. IfSome (S.remaining (source_of reader.old))
         (λ stream. ServingFails F.device K.tells site.now host.old clock.old stream e (S.remaining (source_of reader.new)) (W.contents sink.old) (W.contents sink.new) host.new clock.new)) }
     ensures source { BlamesSource (kind_result result) (S.failed (source_of reader.old)) (S.failed (source_of reader.new)) (reads_left reader.new) }

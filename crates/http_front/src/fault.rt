@@ -22,7 +22,7 @@ pub enum FrontKind {
     /// The writer failed, or took nothing.
     #[error("cannot write")]
     Write,
-    /// The reader gave no end within 1,000,000 reads.
+    /// The reader gave no end within the reads that it may be asked for: of a connection that is served by turns, 1,000,000 that brought bytes.
     #[error("too many reads")]
     TooManyReads,
     /// There was no memory.
@@ -42,7 +42,8 @@ impl From<AllocError> for FrontKind {
 }
 
 /// Why serving a connection ended before its end, and what it left of it.
-#[derive(Clone, Copy, Debug, PartialEq, Eq)]
+#[derive(Clone, Copy, Debug, PartialEq, Eq, Error)]
+#[error("{kind}")]
 pub struct FrontFault {
     /// Why it ended.
     pub kind: FrontKind,

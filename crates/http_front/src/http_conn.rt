@@ -2,7 +2,7 @@
 
 ghost use Rattle.std.specs.Prelude.{◌≡◌, ◌≢◌, ◌+◌, ◌≤◌, ◌<◌, ◌^◌, ◌++◌, ◌⊎◌, ℕ, List, [], true, false, None, Some, Option, length, take, drop, Ok, Err, IfOk, IfErr, IfSome, OnOk, OnErr};
 ghost use Rattle.std.specs.Io.KnownBytes.{Appends, Consumes, IsAtEnd};
-ghost use Rattle.http_message.specs.Inboxes.{unread};
+ghost use Rattle.http_message.specs.ReadBuffers.{unread};
 ghost use Rattle.http_front.specs.UnderWays.{LacksSlice, StepsFrom, most_steps};
 ghost use Rattle.byte_streams.specs.Counted.{reads_left, source_of};
 ghost use Rattle.http_front.specs.Serving.{AddsBytes, BlamesSink, BlamesSource, IsSinkKind, Loses};
@@ -20,7 +20,7 @@ use crate::under_way::{StepSlice, UnderWay};
 use byte_streams::{
     CountedFault, CountedSource, READS, ReadAnswer, Sink, SinkFault, Source, WriteAnswer,
 };
-use http_message::{Clock, Inbox, Site};
+use http_message::{Clock, ReadBuffer, Site};
 use std::alloc::Global;
 
 /// What a turn came to.
@@ -57,12 +57,12 @@ pub enum Next {
 /// holds the bytes of one read, those of a head that is not whole, and one response. `T` is a request that is under way (`Handler::Task`).
 #[derive(Drop)]
 pub struct HttpConn<T> {
-    inbox: Inbox,
+    read_buffer: ReadBuffer,
     text: ResponseText,
     size: usize,
     sent: usize,
     whole: bool,
-    wants: bool,
+    needs_input: bool,
     over: bool,
     hand: Option<UnderWay<T>>,
     reads: u32,
@@ -73,15 +73,15 @@ pub struct HttpConn<T> {
 
 /// Skips so many bytes, or all where there are fewer.
 #[tactic(auto, using(crate::proofs::RestLaws::skip_over))]
-fn skip_up_to(inbox: &mut Inbox, size: usize)
-    ensures { unread inbox.new ≡ drop size (unread inbox.old) }
+fn skip_up_to(read_buffer: &mut ReadBuffer, size: usize)
+    ensures { unread read_buffer.new ≡ drop size (unread read_buffer.old) }
 {
-    let all = inbox.unread().len();
+    let all = read_buffer.unread().len();
     if size < all {
-        inbox.skip(size);
+        read_buffer.skip(size);
         return;
     }
-    inbox.skip(all);
+    read_buffer.skip(all);
 }
 
 /// How many bytes the text of a slice has. Where the slice failed, or that is no number, the text is emptied.
@@ -112,21 +112,21 @@ impl<T: Drop> HttpConn<T> {
 
     /// Nothing came yet. It takes no memory.
     pub fn new(alloc: Global) -> HttpConn<T>
-        ensures unread { unread result.inbox ≡ [] }
+        ensures unread { unread result.read_buffer ≡ [] }
         ensures pending { pending result ≡ [] }
         ensures over { result.over ≡ false }
         ensures hand { result.hand ≡ None }
         ensures whole { result.whole ≡ false }
-        ensures wants { result.wants ≡ true }
+        ensures needs_input { result.needs_input ≡ true }
         ensures requests { result.requests ≡ 0 }
     {
         HttpConn {
-            inbox: Inbox::new(alloc),
+            read_buffer: ReadBuffer::new(alloc),
             text: ResponseText::new(alloc),
             size: 0,
             sent: 0,
             whole: false,
-            wants: true,
+            needs_input: true,
             over: false,
             hand: None,
             reads: READS,
@@ -154,7 +154,7 @@ impl<T: Drop> HttpConn<T> {
         if self.hand.is_some() {
             return Next::Works;
         }
-        if self.wants {
+        if self.needs_input {
             return Next::Reads;
         }
         Next::Steps
@@ -163,12 +163,12 @@ impl<T: Drop> HttpConn<T> {
     /// Reads once, through a buffer.
     fn take_in<R: Source>(&mut self, reader: &mut R, buffer: &mut [u8]) -> Result<Turned, FrontKind>
         requires room { 0 < length buffer.old }
-        ensures took { (bytes : List ℕ) × Consumes (R.remaining reader.old) (R.remaining reader.new) bytes × OnOk result (unread self.new.inbox ≡ unread self.old.inbox ++ bytes) }
+        ensures took { (bytes : List ℕ) × Consumes (R.remaining reader.old) (R.remaining reader.new) bytes × OnOk result (unread self.new.read_buffer ≡ unread self.old.read_buffer ++ bytes) }
         ensures text { pending self.new ≡ pending self.old }
         ensures over { self.new.over ≡ self.old.over }
         ensures hand { self.new.hand ≡ self.old.hand }
         ensures whole { self.new.whole ≡ true → (self.old.whole ≡ true) ⊎ IsAtEnd (R.remaining reader.new) }
-        ensures wants { self.new.wants ≡ true → self.old.wants ≡ true }
+        ensures needs_input { self.new.needs_input ≡ true → self.old.needs_input ≡ true }
         ensures requests { self.new.requests ≡ self.old.requests }
         ensures lost { IfErr result (λ e. Loses (length buffer.new) (R.remaining reader.old) (R.remaining reader.new) e) }
         ensures source { BlamesSource result (R.failed reader.old) (R.failed reader.new) self.new.reads }
@@ -180,14 +180,14 @@ impl<T: Drop> HttpConn<T> {
         match reader.read(buffer) {
             Ok(ReadAnswer::End) => {
                 self.whole = true;
-                self.wants = false;
+                self.needs_input = false;
                 Ok(Turned::Moved)
             }
             Ok(ReadAnswer::NotNow) => Ok(Turned::NoBytes),
-            Ok(ReadAnswer::Bytes(count)) => match self.inbox.add(&buffer[..count]) {
+            Ok(ReadAnswer::Bytes(count)) => match self.read_buffer.add(&buffer[..count]) {
                 Ok(()) => {
                     self.reads -= 1;
-                    self.wants = false;
+                    self.needs_input = false;
                     Ok(Turned::Moved)
                 }
                 Err(_) => Err(FrontKind::NoMemory),
@@ -200,11 +200,11 @@ impl<T: Drop> HttpConn<T> {
     fn forget_text<H: Handler>(&mut self, alloc: Global, handler: &mut H)
         requires { self.old.sent ≡ self.old.size }
         ensures pending { pending self.new ≡ [] }
-        ensures inbox { self.new.inbox ≡ self.old.inbox }
+        ensures read_buffer { self.new.read_buffer ≡ self.old.read_buffer }
         ensures over { self.new.over ≡ self.old.over }
         ensures hand { self.new.hand ≡ self.old.hand }
         ensures whole { self.new.whole ≡ self.old.whole }
-        ensures wants { self.new.wants ≡ self.old.wants }
+        ensures needs_input { self.new.needs_input ≡ self.old.needs_input }
         ensures requests { self.new.requests ≡ self.old.requests }
         ensures still { handler.new ≡ handler.old }
     {
@@ -223,11 +223,11 @@ impl<T: Drop> HttpConn<T> {
     ) -> Result<Turned, FrontKind>
         requires { self.old.sent < self.old.size }
         ensures wrote { (n : ℕ) × Appends (W.contents sink.old) (W.contents sink.new) (take n (pending self.old)) × (pending self.new ≡ drop n (pending self.old)) }
-        ensures inbox { self.new.inbox ≡ self.old.inbox }
+        ensures read_buffer { self.new.read_buffer ≡ self.old.read_buffer }
         ensures over { self.new.over ≡ self.old.over }
         ensures hand { self.new.hand ≡ self.old.hand }
         ensures whole { self.new.whole ≡ self.old.whole }
-        ensures wants { self.new.wants ≡ self.old.wants }
+        ensures needs_input { self.new.needs_input ≡ self.old.needs_input }
         ensures requests { self.new.requests ≡ self.old.requests }
         ensures still { handler.new ≡ handler.old }
         ensures kinds { IfErr result IsSinkKind }
@@ -260,10 +260,10 @@ impl<T: Drop> HttpConn<T> {
         ensures err { IfErr result (λ e. IsSinkKind e × AppendsFront (W.contents sink.old) (W.contents sink.new) (pending self.old)) }
         ensures blames { BlamesSink result (W.failed sink.old) (W.failed sink.new) }
         ensures pending { pending self.new ≡ [] }
-        ensures inbox { self.new.inbox ≡ self.old.inbox }
+        ensures read_buffer { self.new.read_buffer ≡ self.old.read_buffer }
         ensures over { self.new.over ≡ self.old.over }
         ensures whole { self.new.whole ≡ self.old.whole }
-        ensures wants { self.new.wants ≡ self.old.wants }
+        ensures needs_input { self.new.needs_input ≡ self.old.needs_input }
         ensures requests { self.new.requests ≡ self.old.requests }
         ensures still { handler.new ≡ handler.old }
     {
@@ -285,8 +285,8 @@ impl<T: Drop> HttpConn<T> {
     ) -> Result<(), FrontKind>
         requires room { length buffer.old ≡ 8192 }
         requires more { self.old.whole ≡ false }
-        ensures ok { OnOk result (AddsBytes (R.remaining (source_of reader.old)) (R.remaining (source_of reader.new)) (unread self.old.inbox) (unread self.new.inbox) 8192 self.new.whole) }
-        ensures waits { OnOk result (self.new.wants ≡ true → (self.new.whole ≡ false) × (unread self.new.inbox ≡ unread self.old.inbox)) }
+        ensures ok { OnOk result (AddsBytes (R.remaining (source_of reader.old)) (R.remaining (source_of reader.new)) (unread self.old.read_buffer) (unread self.new.read_buffer) 8192 self.new.whole) }
+        ensures waits { OnOk result (self.new.needs_input ≡ true → (self.new.whole ≡ false) × (unread self.new.read_buffer ≡ unread self.old.read_buffer)) }
         ensures err { IfErr result (λ e. Loses 8192 (R.remaining (source_of reader.old)) (R.remaining (source_of reader.new)) e) }
         ensures blames { BlamesSource result (R.failed (source_of reader.old)) (R.failed (source_of reader.new)) (reads_left reader.new) }
         ensures counted { OnOk result (reads_left reader.old ≡ reads_left reader.new + 1) }
@@ -299,15 +299,15 @@ impl<T: Drop> HttpConn<T> {
         match reader.read(buffer) {
             Ok(ReadAnswer::End) => {
                 self.whole = true;
-                self.wants = false;
+                self.needs_input = false;
                 Ok(())
             }
             Ok(ReadAnswer::NotNow) => Ok(()),
             Ok(ReadAnswer::Bytes(count)) => {
                 let read = &buffer[..count];
-                match self.inbox.add(read) {
+                match self.read_buffer.add(read) {
                     Ok(()) => {
-                        self.wants = false;
+                        self.needs_input = false;
                         Ok(())
                     }
                     Err(_) => Err(FrontKind::NoMemory),
@@ -328,14 +328,14 @@ impl<T: Drop> HttpConn<T> {
         ensures whole { self.new.whole ≡ self.old.whole }
     {
         match step {
-            ServeStep::More => self.wants = true,
+            ServeStep::More => self.needs_input = true,
             ServeStep::Done => self.over = true,
             ServeStep::Stays(size) => {
-                skip_up_to(&mut self.inbox, size);
+                skip_up_to(&mut self.read_buffer, size);
                 self.requests = self.requests.saturating_add(1);
             }
             ServeStep::Closes(size) => {
-                skip_up_to(&mut self.inbox, size);
+                skip_up_to(&mut self.read_buffer, size);
                 self.requests = self.requests.saturating_add(1);
                 self.over = true;
             }
@@ -361,10 +361,10 @@ impl<T: Drop> HttpConn<T> {
         ensures beside { (from : H) → H.beside from number handler.old → H.beside from number handler.new }
         ensures clock { (from : K) → Passes K.tells from clock.old → Passes K.tells from clock.new }
         ensures did { OnOk result ((x : StepSlice T) × StepsFrom site.now (λ old. P.comes old number) (λ old. P.rests old number) K.tells self.old.hand handler.old
-            clock.old (unread self.old.inbox) self.old.whole x (pending self.new) handler.new clock.new
+            clock.old (unread self.old.read_buffer) self.old.whole x (pending self.new) handler.new clock.new
             × SliceLands x self.old self.new) }
         ensures whole { self.new.whole ≡ self.old.whole }
-        ensures lacks { IfErr result (LacksSlice site.now (λ old. H.lacks old number) (λ old. P.lacks_rest old number) self.old.hand handler.old (unread self.old.inbox) self.old.whole handler.new) }
+        ensures lacks { IfErr result (LacksSlice site.now (λ old. H.lacks old number) (λ old. P.lacks_rest old number) self.old.hand handler.old (unread self.old.read_buffer) self.old.whole handler.new) }
         ensures none { OnErr result (pending self.new ≡ []) }
         ensures sent { self.new.sent ≡ 0 }
         ensures few { P.steps handler.old number (most_steps self.old.hand) handler.new }
@@ -372,7 +372,7 @@ impl<T: Drop> HttpConn<T> {
         self.sent = 0;
         self.size = 0;
         let hand = self.hand.take();
-        let seen = self.inbox.unread();
+        let seen = self.read_buffer.unread();
         let did = step_on::<H, K, P>(
             alloc,
             seen,
@@ -422,7 +422,7 @@ impl<T: Drop> HttpConn<T> {
             (R.remaining reader.new) handler.old handler.new self.old) }
         ensures none { OnErr result (pending self.old ≡ [] → pending self.new ≡ []) }
         ensures few { H.steps handler.old number (most_steps self.old.hand) handler.new }
-        ensures wants { OnOk result (WantsSo self.old self.new) }
+        ensures needs_input { OnOk result (WantsSo self.old self.new) }
         ensures counted { OnOk result (CountsOn self.old self.new) }
         ensures source { BlamesSource result (R.failed reader.old) (R.failed reader.new) self.new.reads }
         ensures sink { BlamesSink result (W.failed sink.old) (W.failed sink.new) }

@@ -21,13 +21,15 @@ mod texts;
 mod under_way;
 mod wanted;
 
+pub use byte_streams::{CountedSource, Sink, SinkFault, Source};
 pub use connection::{close_turns, open_turns, serve};
 pub use fault::{FrontFault, FrontKind, Served};
+pub use filter_chain::{BlockBytes, Files, Host, Rings, Stored};
 pub use handler::{Handler, RequestOutcome, Slice};
 pub use http_conn::{HttpConn, Next, Turned};
 pub use http_message::{
     Clock, Exchange, Failure, HeadLook, Method, Reply, Site, SiteFault, StatusCode, Version,
-    closing, decoded, head_closes, look_at, middle, put_opening, refusal, status_closes,
+    closing, decoded, head_closes, head_refusal, look_at, middle, put_opening, status_closes,
 };
 pub use laws::worked_rows;
 pub use response::ResponseText;

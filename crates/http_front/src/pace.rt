@@ -67,12 +67,12 @@ pub(crate) trait Pace<H: Handler> {
 }
 
 /// Each request is made whole: none is ever under way.
-pub(crate) struct AtOnce;
+pub(crate) struct WholeRequest;
 
 /// A slice of a request is made, and then others have their turns.
 pub(crate) struct InSlices;
 
-impl<H: Handler> Pace<H> for AtOnce {
+impl<H: Handler> Pace<H> for WholeRequest {
     type Task = Infallible;
 
     ghost comes = { λ old number method file o new. H.handles old number method file o new };

@@ -14,7 +14,7 @@ use http_message::{Failure, Method, StatusCode};
 use std::alloc::Global;
 
 /// 500 for a failure; 404 where there is none.
-pub(crate) fn bare(alloc: Global, failure: Option<Failure>) -> RequestOutcome
+pub(crate) fn without_body(alloc: Global, failure: Option<Failure>) -> RequestOutcome
     ensures { IsUnserved failure result }
 {
     let status = match failure {
@@ -54,12 +54,12 @@ fn output<F: Files + Drop, R: Rings<Stored> + Drop>(
             body,
             failure: None,
         },
-        Err(refusal) => bare(alloc, Some(Failure::Refused(refusal))),
+        Err(refusal) => without_body(alloc, Some(Failure::Refused(refusal))),
     }
 }
 
 /// Ends the request without content.
-pub(crate) fn finish_bare<F: Files + Drop, R: Rings<Stored> + Drop>(
+pub(crate) fn finish_without_body<F: Files + Drop, R: Rings<Stored> + Drop>(
     alloc: Global,
     host: &mut Host<F, R>,
     number: u64,
@@ -73,7 +73,7 @@ pub(crate) fn finish_bare<F: Files + Drop, R: Rings<Stored> + Drop>(
     ensures calls { IfOk result (λ r. calls_after r ≡ 0) }
 {
     end_request(host, number)?;
-    Ok(Slice::Done(bare(alloc, failure)))
+    Ok(Slice::Done(without_body(alloc, failure)))
 }
 
 /// Finishes a request whose last call ended so.
@@ -96,8 +96,8 @@ pub(crate) fn finish<F: Files + Drop, R: Rings<Stored> + Drop>(
             end_request(host, number)?;
             Ok(Slice::Done(outcome))
         }
-        CallEnd::Failed(why) => finish_bare(alloc, host, number, Some(why)),
-        CallEnd::Broke(why) => Ok(Slice::Done(bare(alloc, Some(why)))),
+        CallEnd::Failed(why) => finish_without_body(alloc, host, number, Some(why)),
+        CallEnd::Broke(why) => Ok(Slice::Done(without_body(alloc, Some(why)))),
     }
 }
 

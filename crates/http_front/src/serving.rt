@@ -7,7 +7,7 @@ ghost use Rattle.std.specs.Io.KnownBytes.{IsAtEnd};
 use crate::fault::{FrontKind, Served};
 use crate::handler::Handler;
 use crate::http_conn::{HttpConn, Next};
-use crate::pace::AtOnce;
+use crate::pace::WholeRequest;
 use byte_streams::{CountedSource, READ_BYTES, Sink, Source};
 use http_message::{Clock, Site};
 use std::alloc::Global;
@@ -25,23 +25,23 @@ fn answer_next<W: Sink, H: Handler, K: Clock>(
 ) -> Result<(), FrontKind>
     requires open { H.is_open handler.old number }
     requires going { conn.old.over ≡ false }
-    requires ready { conn.old.wants ≡ false }
-    requires few { conn.old.requests + length (unread conn.old.inbox) < 2 ^ 63 }
+    requires ready { conn.old.needs_input ≡ false }
+    requires few { conn.old.requests + length (unread conn.old.read_buffer) < 2 ^ 63 }
     ensures open { H.is_open handler.new number }
     ensures beside { (from : H) → H.beside from number handler.old → H.beside from number handler.new }
-    ensures few { OnOk result (conn.new.over ≡ false → conn.new.requests + length (unread conn.new.inbox) ≤ conn.old.requests + length (unread conn.old.inbox)) }
+    ensures few { OnOk result (conn.new.over ≡ false → conn.new.requests + length (unread conn.new.read_buffer) ≤ conn.old.requests + length (unread conn.old.read_buffer)) }
     ensures whole { conn.new.whole ≡ conn.old.whole }
     ensures written { pending conn.new ≡ [] }
     ensures less { OnOk result (to_do conn.new < to_do conn.old) }
-    ensures wants { OnOk result (conn.new.wants ≡ true → (conn.old.whole ≡ false) × WantsMore (unread conn.new.inbox)) }
+    ensures needs_input { OnOk result (conn.new.needs_input ≡ true → (conn.old.whole ≡ false) × WantsMore (unread conn.new.read_buffer)) }
     ensures blames { BlamesSink result (W.failed sink.old) (W.failed sink.new) }
     ensures unread { result ≢ Err FrontKind.Read × result ≢ Err FrontKind.TooManyReads }
     ensures goes { (old : H) (before : K) (r q w : Option (List ℕ)) → (conn.old.whole ≡ true → IsAtEnd q)
-        → ServedSoFar site.now (λ h. H.handles h number) K.tells old before r q w (W.contents sink.old) (unread conn.old.inbox) conn.old.requests handler.old clock.old
+        → ServedSoFar site.now (λ h. H.handles h number) K.tells old before r q w (W.contents sink.old) (unread conn.old.read_buffer) conn.old.requests handler.old clock.old
         → ServeGoes site.now (λ h. H.handles h number) K.tells (λ h. H.lacks h number) old before r q w (W.contents sink.new) conn.new.over
-        (unread conn.new.inbox) conn.new.requests handler.new clock.new result }
+        (unread conn.new.read_buffer) conn.new.requests handler.new clock.new result }
 {
-    conn.step::<H, K, AtOnce>(alloc, site, handler, number, clock)?;
+    conn.step::<H, K, WholeRequest>(alloc, site, handler, number, clock)?;
     conn.put_all(alloc, sink, handler)
 }
 
@@ -58,20 +58,20 @@ fn answer_all<W: Sink, H: Handler, K: Clock>(
     requires open { H.is_open handler.old number }
     requires going { conn.old.over ≡ false }
     requires written { pending conn.old ≡ [] }
-    requires wants { conn.old.wants ≡ true → (conn.old.whole ≡ false) × WantsMore (unread conn.old.inbox) }
-    requires few { conn.old.requests + length (unread conn.old.inbox) < 2 ^ 63 }
+    requires needs_input { conn.old.needs_input ≡ true → (conn.old.whole ≡ false) × WantsMore (unread conn.old.read_buffer) }
+    requires few { conn.old.requests + length (unread conn.old.read_buffer) < 2 ^ 63 }
     ensures open { H.is_open handler.new number }
     ensures beside { (from : H) → H.beside from number handler.old → H.beside from number handler.new }
-    ensures few { result ≡ Ok false → conn.new.requests + length (unread conn.new.inbox) ≤ conn.old.requests + length (unread conn.old.inbox) }
+    ensures few { result ≡ Ok false → conn.new.requests + length (unread conn.new.read_buffer) ≤ conn.old.requests + length (unread conn.old.read_buffer) }
     ensures over { IfOk result (λ over. conn.new.over ≡ over) }
     ensures written { pending conn.new ≡ [] }
-    ensures wants { result ≡ Ok false → (conn.new.whole ≡ false) × WantsMore (unread conn.new.inbox) }
+    ensures needs_input { result ≡ Ok false → (conn.new.whole ≡ false) × WantsMore (unread conn.new.read_buffer) }
     ensures blames { BlamesSink result (W.failed sink.old) (W.failed sink.new) }
     ensures unread { result ≢ Err FrontKind.Read × result ≢ Err FrontKind.TooManyReads }
     ensures goes { (old : H) (before : K) (r q w : Option (List ℕ)) → (conn.old.whole ≡ true → IsAtEnd q)
-        → ServedSoFar site.now (λ h. H.handles h number) K.tells old before r q w (W.contents sink.old) (unread conn.old.inbox) conn.old.requests handler.old clock.old
+        → ServedSoFar site.now (λ h. H.handles h number) K.tells old before r q w (W.contents sink.old) (unread conn.old.read_buffer) conn.old.requests handler.old clock.old
         → ServeGoes site.now (λ h. H.handles h number) K.tells (λ h. H.lacks h number) old before r q w (W.contents sink.new) conn.new.over
-        (unread conn.new.inbox) conn.new.requests handler.new clock.new result }
+        (unread conn.new.read_buffer) conn.new.requests handler.new clock.new result }
 {
     loop {
         match conn.next() {

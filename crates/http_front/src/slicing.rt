@@ -7,7 +7,7 @@ ghost use Rattle.http_front.specs.Prelude.{MakesSlice, OpensUnlessIn, Rests, Res
 use crate::fault::FrontKind;
 use crate::feeding::{next_brigade, wanted};
 use crate::handler::{RequestOutcome, Slice};
-use crate::requests::{bare, finish, finish_bare, unopened};
+use crate::requests::{finish, finish_without_body, unopened, without_body};
 use crate::running::{CallEnd, how_ended, run_call, succeeded, unless_lack};
 use crate::task::{FileRest, RequestTask};
 use filter_chain::{Files, Host, Refusal, Rings, Stepped, Stored};
@@ -88,13 +88,13 @@ fn open_slice<F: Files + Drop, R: Rings<Stored> + Drop>(
     ensures calls { IfOk result (λ r. calls_after r ≤ 2 ^ 48) }
 {
     if let CallEnd::Broke(why) = init {
-        return Ok(Slice::Done(bare(alloc, Some(why))));
+        return Ok(Slice::Done(without_body(alloc, Some(why))));
     }
     match host.open_file(number, name) {
         Ok(file) => carry_on(alloc, host, number, init, wanted(method, file)),
         Err(refusal) => {
             unless_lack(refusal)?;
-            finish_bare(alloc, host, number, unopened(refusal))
+            finish_without_body(alloc, host, number, unopened(refusal))
         }
     }
 }
@@ -124,7 +124,7 @@ fn begin_init<F: Files + Drop, R: Rings<Stored> + Drop>(
 {
     if let Err(refusal) = host.begin(number) {
         unless_lack(refusal)?;
-        return Ok(Slice::Done(bare(alloc, Some(Failure::Refused(refusal)))));
+        return Ok(Slice::Done(without_body(alloc, Some(Failure::Refused(refusal)))));
     }
     match step_slice(host, number) {
         Some(init) => open_slice(alloc, host, number, init, method, name),

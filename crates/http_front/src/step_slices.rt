@@ -4,7 +4,7 @@ ghost use Rattle.std.specs.Prelude.{◌≡◌, ◌≤◌, ◌*◌, ℕ, Bool, Li
 ghost use Rattle.http_front.specs.Prelude.{RequestHead, IsRequestAt, IsRequestWithin, method_of, IsHeadFound, slice_steps, IsLack, LacksNamesAt, Passes, LacksAnswer, text_of, head_limit};
 ghost use Rattle.http_front.specs.Prelude.{fields_limit, BeginsHead, IsAskedBy, IsUnderWay, LacksSlice, Sends, StepMade, StepsFrom, Wants, most_steps, Site};
 
-use crate::answering::{bad_reply, bare};
+use crate::answering::{bad_reply, without_body};
 use crate::fault::FrontKind;
 use crate::handler::{Handler, RequestOutcome, Slice};
 use crate::pace::Pace;
@@ -61,7 +61,7 @@ fn begin_wanted<H: Handler, P: Pace<H>>(
     ensures few { P.steps handler.old number (2 * slice_steps) handler.new }
 {
     match wanted {
-        SiteTarget::Status(status) => Ok(Slice::Done(bare(alloc, status))),
+        SiteTarget::Status(status) => Ok(Slice::Done(without_body(alloc, status))),
         SiteTarget::File(file) => P::begin(alloc, handler, number, method, file),
     }
 }

@@ -5,7 +5,7 @@ ghost use Rattle.httparse.specs.Grammar.{RequestHead};
 ghost use Rattle.httparse.specs.Spans.{IsRequestAt, IsRequestWithin};
 ghost use Rattle.http_front.specs.UnderWays.{Wants, WantsPath};
 
-use http_message::{Site, StatusCode, decoded, refusal, target_path};
+use http_message::{Site, StatusCode, decoded, head_refusal, target_path};
 use httparse::spans::{HeaderSpan, RequestSpans};
 use std::alloc::{AllocError, Global};
 
@@ -45,7 +45,7 @@ pub(crate) fn wanted_of<'a>(
     requires { IsRequestWithin seen.now spans.now head }
     ensures { IfOk result (λ w. (h : RequestHead) → IsRequestAt seen.now spans.now head h → Wants site.now h w) }
 {
-    match refusal(seen, spans, head) {
+    match head_refusal(seen, spans, head) {
         Some(status) => Ok(SiteTarget::Status(status)),
         None => path_wanted(alloc, head.path.of(seen), site),
     }

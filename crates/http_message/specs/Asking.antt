@@ -99,8 +99,8 @@ abbrev pub fields_of : RequestHead → List Header
 fields_of h = map name_and_value h.fields
 
 -- the status that a head is refused with, whatever is served: by its fields, its method, its target
-unfoldable pub refusal : RequestHead → Option StatusCode
-refusal h =
+unfoldable pub head_refusal : RequestHead → Option StatusCode
+head_refusal h =
     or_else (field_refusal h.minor (fields_of h))
     (or_else (method_refusal h.method) (target_refusal h.target))
 

@@ -7,5 +7,5 @@ pub mod Clocks
 pub mod Routes
 pub mod Sites
 pub mod SiteFiles
-pub mod Inboxes
+pub mod ReadBuffers
 pub mod Prelude

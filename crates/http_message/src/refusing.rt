@@ -1,7 +1,7 @@
 //! What a whole head is refused with, and whether its client closes.
 
 ghost use Rattle.std.specs.Prelude.{◌≡◌, map, take, length, All};
-ghost use Rattle.http_message.specs.Prelude.{RequestHead, IsHeaderWithin, IsRequestAt, IsRequestWithin, header_bytes, span_bytes, method_refusal, target_refusal, or_else, refusal, head_closes};
+ghost use Rattle.http_message.specs.Prelude.{RequestHead, IsHeaderWithin, IsRequestAt, IsRequestWithin, header_bytes, span_bytes, method_refusal, target_refusal, or_else, head_refusal, head_closes};
 ghost use Rattle.http_message.specs.Prelude.{status_closes, field_refusal, closes};
 
 use crate::asks::{method_refusal, target_path};
@@ -29,9 +29,9 @@ fn line_refusal(method: &[u8], target: &[u8]) -> Option<StatusCode>
 
 /// The status that the head is refused with, whatever is served, if it is: by its fields, then by its
 /// method (RFC 9110, section 9.1), then by its target (RFC 9112, section 3.2).
-pub fn refusal(buf: &[u8], spans: &[HeaderSpan], head: RequestSpans) -> Option<StatusCode>
+pub fn head_refusal(buf: &[u8], spans: &[HeaderSpan], head: RequestSpans) -> Option<StatusCode>
     requires { IsRequestWithin buf.now spans.now head }
-    ensures { (h : RequestHead) → IsRequestAt buf.now spans.now head h → result ≡ refusal h }
+    ensures { (h : RequestHead) → IsRequestAt buf.now spans.now head h → result ≡ head_refusal h }
 {
     match field_refusal(head.version, buf, &spans[..head.headers]) {
         Some(status) => Some(status),

@@ -5,7 +5,7 @@ ghost use Rattle.http_message.specs.Asking.{method_of, version_of};
 
 use crate::failure::Failure;
 use crate::status::StatusCode;
-use block_bytes::BlockBytes;
+use byte_text::BlockBytes;
 
 /// The version of a request (RFC 9112, section 2.3).
 #[derive(Clone, Copy, Debug, PartialEq, Eq)]

@@ -8,6 +8,7 @@ use crate::site::{Site, SiteFault};
 use byte_text::{after_token, first_line, token};
 use std::alloc::{AllocError, Global};
 use std::str;
+use thiserror::Error;
 
 /// How many bytes a site file has at most.
 pub const SITE_BYTES: usize = 1_048_576;
@@ -22,11 +23,13 @@ pub struct SiteLine<'a> {
 }
 
 /// Why a text makes no site.
-#[derive(Clone, Copy)]
+#[derive(Clone, Copy, Debug, Error)]
 pub enum SiteRefusal {
     /// This line, counted from 1, is none, or its path is none or is taken by an earlier line.
+    #[error("line {0}")]
     Line(usize),
     /// There was no memory.
+    #[error("no memory")]
     NoMemory,
 }
 

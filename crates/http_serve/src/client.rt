@@ -216,7 +216,7 @@ impl Client {
                 self.follow(turned, shared.patience, now)
             }
             Err(kind) => {
-                self.tell_end(shared, Err(FrontFault { kind, left: None }));
+                self.log_end(shared, Err(FrontFault { kind, left: None }));
                 TurnOutcome::Over
             }
         }
@@ -295,7 +295,7 @@ impl Client {
             match self.move_once(shared, host, now) {
                 TurnOutcome::Again => {
                     if !had_all && self.lingers.is_some() {
-                        self.tell_end(
+                        self.log_end(
                             shared,
                             Ok(Served {
                                 requests: self.conn.requests(),
@@ -313,13 +313,13 @@ impl Client {
     }
 
     /// Tells how it ended, where that is told.
-    fn tell_end<R: Clock + Eprint + AllocGlobal>(
+    fn log_end<R: Clock + Eprint + AllocGlobal>(
         &self,
         shared: &SharedState<'_, R>,
         outcome: Result<Served, FrontFault>,
     ) {
         if shared.logs {
-            self.log(shared).tell_end(outcome);
+            self.log(shared).log_end(outcome);
         }
     }
 
@@ -336,7 +336,7 @@ impl Client {
     }
 
     /// Its time is over.
-    pub fn tell_late<R: Clock + Eprint + AllocGlobal>(&self, shared: &SharedState<'_, R>) {
+    pub fn log_late<R: Clock + Eprint + AllocGlobal>(&self, shared: &SharedState<'_, R>) {
         if self.lingers.is_some() || self.gone {
             return;
         }
@@ -345,6 +345,6 @@ impl Client {
             _ => FrontKind::Read,
         };
         self.deadline.pass();
-        self.tell_end(shared, Err(FrontFault { kind, left: None }));
+        self.log_end(shared, Err(FrontFault { kind, left: None }));
     }
 }

@@ -4,7 +4,7 @@ ghost use Rattle.http_front.specs.Driven.{IsAlive};
 
 use crate::client::{Client, SharedState, TurnOutcome, later};
 use crate::listening::ServeSettings;
-use crate::request_log::{tell_refused, tell_unready};
+use crate::request_log::{log_refused, log_unready};
 use filter_chain::{Files, Host, Rings, Stored};
 use http_front::{Site, close_turns, open_turns};
 use mio::event::Event;
@@ -34,13 +34,13 @@ const PAUSE_MILLIS: u64 = 100;
 
 /// The clients, and those whose turn it is.
 #[derive(Drop)]
-struct Hall {
+struct Clients {
     clients: Slab<Client>,
     queue: VecDeque<usize>,
     late: Vec<usize>,
 }
 
-impl Hall {
+impl Clients {
     /// Takes note of what the system reported of a client.
     fn note(&mut self, key: usize, event: &Event) {
         let Some(client) = self.clients.get_mut(key) else {
@@ -138,7 +138,7 @@ impl Hall {
         self.late.clear();
         for (key, client) in self.clients.iter() {
             if client.gone || (client.due <= now && !client.works()) {
-                client.tell_late(shared);
+                client.log_late(shared);
                 let _ = self.late.push(key);
             }
         }
@@ -185,7 +185,7 @@ impl Hall {
 
 /// The listener, and when it is asked again.
 #[derive(Drop)]
-struct Door {
+struct Acceptor {
     listener: TcpListener,
     /// Somebody may wait there.
     open: bool,
@@ -196,7 +196,7 @@ struct Door {
     at_once: usize,
 }
 
-impl Door {
+impl Acceptor {
     /// Whether nobody can be taken now.
     fn waits(&self, inside: usize) -> bool {
         !self.open || self.pause.is_some() || self.left == 0 || inside >= self.at_once
@@ -221,7 +221,7 @@ impl Door {
             }
             Err(error) => {
                 if logs {
-                    tell_refused(rt, &error);
+                    log_refused(rt, &error);
                 }
                 self.pause = Some(later(now, Duration::from_millis(PAUSE_MILLIS)));
                 None
@@ -263,7 +263,7 @@ fn enter<F: Files + Drop, B: Rings<Stored> + Drop>(
 
 /// A client comes in.
 fn welcome<R: Clock + Eprint + AllocGlobal, F: Files + Drop, B: Rings<Stored> + Drop>(
-    hall: &mut Hall,
+    room: &mut Clients,
     shared: &SharedState<'_, R>,
     host: &mut Host<F, B>,
     poll: &Poll,
@@ -275,8 +275,8 @@ fn welcome<R: Clock + Eprint + AllocGlobal, F: Files + Drop, B: Rings<Stored> + 
     ensures { IsAlive F.device host.new }
 {
     let (mut stream, peer) = taken;
-    let host_number = enter(&mut stream, host, poll, hall.clients.vacant_key())?;
-    if hall.admit(Client::new(shared, stream, peer, host_number, number, now)) {
+    let host_number = enter(&mut stream, host, poll, room.clients.vacant_key())?;
+    if room.admit(Client::new(shared, stream, peer, host_number, number, now)) {
         return Ok(());
     }
     let _ = close_turns(host, host_number);
@@ -285,8 +285,8 @@ fn welcome<R: Clock + Eprint + AllocGlobal, F: Files + Drop, B: Rings<Stored> + 
 
 /// Takes those that wait, as many as there are places.
 fn take<R: Clock + Eprint + AllocGlobal, F: Files + Drop, B: Rings<Stored> + Drop>(
-    door: &mut Door,
-    hall: &mut Hall,
+    acceptor: &mut Acceptor,
+    room: &mut Clients,
     shared: &SharedState<'_, R>,
     host: &mut Host<F, B>,
     poll: &Poll,
@@ -295,19 +295,19 @@ fn take<R: Clock + Eprint + AllocGlobal, F: Files + Drop, B: Rings<Stored> + Dro
     requires { IsAlive F.device host.old }
     ensures { IsAlive F.device host.new }
 {
-    door.end_pause(now);
+    acceptor.end_pause(now);
     for _ in 0..TAKEN_IN_A_ROW {
-        if door.waits(hall.clients.len()) {
+        if acceptor.waits(room.clients.len()) {
             return;
         }
-        let Some(taken) = door.next(shared.runtime, shared.logs, now) else {
+        let Some(taken) = acceptor.next(shared.runtime, shared.logs, now) else {
             continue;
         };
         let peer = taken.1;
-        let number = door.taken;
-        if let Err(error) = welcome(hall, shared, host, poll, taken, number, now) {
+        let number = acceptor.taken;
+        if let Err(error) = welcome(room, shared, host, poll, taken, number, now) {
             if shared.logs {
-                tell_unready(shared.runtime, peer, number, &error);
+                log_unready(shared.runtime, peer, number, &error);
             }
         }
     }
@@ -315,24 +315,24 @@ fn take<R: Clock + Eprint + AllocGlobal, F: Files + Drop, B: Rings<Stored> + Dro
 
 /// How long the loop may wait: not at all where somebody's turn is, or somebody can be taken; to the next sweep where there is any client, or the
 /// door pauses.
-fn patience_of(hall: &Hall, door: &Door) -> Option<Duration> {
-    if !hall.queue.is_empty() || !door.waits(hall.clients.len()) {
+fn patience_of(room: &Clients, acceptor: &Acceptor) -> Option<Duration> {
+    if !room.queue.is_empty() || !acceptor.waits(room.clients.len()) {
         return Some(Duration::ZERO);
     }
-    if hall.clients.is_empty() && door.pause.is_none() {
+    if room.clients.is_empty() && acceptor.pause.is_none() {
         return None;
     }
     Some(Duration::from_millis(SWEEP_MILLIS))
 }
 
 /// Takes note of what the system reports.
-fn note(events: &Events, hall: &mut Hall, door: &mut Door) {
+fn note(events: &Events, room: &mut Clients, acceptor: &mut Acceptor) {
     for event in events.iter() {
         let Token(key) = event.token();
         if key == DOOR {
-            door.open = true;
+            acceptor.open = true;
         } else {
-            hall.note(key, event);
+            room.note(key, event);
         }
     }
 }
@@ -346,28 +346,28 @@ fn wait(poll: &mut Poll, events: &mut Events, most: Option<Duration>) -> io::Res
 }
 
 /// Serves the clients of a hall by turns, and those that come in, until all are served.
-fn serve_hall<R: Clock + Eprint + AllocGlobal, F: Files + Drop, B: Rings<Stored> + Drop>(
-    hall: &mut Hall,
+fn serve_clients<R: Clock + Eprint + AllocGlobal, F: Files + Drop, B: Rings<Stored> + Drop>(
+    room: &mut Clients,
     shared: &mut SharedState<'_, R>,
     host: &mut Host<F, B>,
     poll: &mut Poll,
     events: &mut Events,
-    door: &mut Door,
+    acceptor: &mut Acceptor,
 ) -> io::Result<()>
     requires { IsAlive F.device host.old }
 {
     let mut swept = Instant::now(shared.runtime)?;
     for _ in 0..u64::MAX {
-        if door.left == 0 && hall.clients.is_empty() {
+        if acceptor.left == 0 && room.clients.is_empty() {
             return Ok(());
         }
-        let most = patience_of(hall, door);
+        let most = patience_of(room, acceptor);
         wait(poll, events, most)?;
-        note(events, hall, door);
+        note(events, room, acceptor);
         let now = Instant::now(shared.runtime)?;
-        take(door, hall, shared, host, poll, now);
-        hall.go_round(shared, host, now);
-        swept = hall.sweep_in_time(shared, host, swept, now);
+        take(acceptor, room, shared, host, poll, now);
+        room.go_round(shared, host, now);
+        swept = room.sweep_in_time(shared, host, swept, now);
     }
     Ok(())
 }
@@ -378,22 +378,22 @@ fn run<R: Clock + Eprint + AllocGlobal, F: Files + Drop, B: Rings<Stored> + Drop
     host: &mut Host<F, B>,
     poll: &mut Poll,
     events: &mut Events,
-    door: &mut Door,
+    acceptor: &mut Acceptor,
 ) -> io::Result<()>
     requires { IsAlive F.device host.old }
 {
     let alloc = shared.runtime.alloc();
-    let mut hall = Hall {
+    let mut room = Clients {
         clients: Slab::new(alloc),
         queue: VecDeque::new(alloc),
         late: Vec::new(alloc),
     };
-    serve_hall(&mut hall, shared, host, poll, events, door)
+    serve_clients(&mut room, shared, host, poll, events, acceptor)
 }
 
 /// The door behind which these settings serve.
-fn door_of(listener: TcpListener, settings: ServeSettings) -> Door {
-    Door {
+fn door_of(listener: TcpListener, settings: ServeSettings) -> Acceptor {
+    Acceptor {
         listener,
         open: true,
         pause: None,
@@ -414,12 +414,12 @@ fn serve_door<R: Clock + Eprint + AllocGlobal, F: Files + Drop, B: Rings<Stored>
     settings: ServeSettings,
     poll: &mut Poll,
     events: &mut Events,
-    door: &mut Door,
+    acceptor: &mut Acceptor,
 ) -> io::Result<()>
     requires { IsAlive F.device host.old }
 {
     poll.registry()
-        .register(&mut door.listener, Token(DOOR), Interest::READABLE)?;
+        .register(&mut acceptor.listener, Token(DOOR), Interest::READABLE)?;
     let mut shared = SharedState {
         runtime: rt,
         site,
@@ -427,7 +427,7 @@ fn serve_door<R: Clock + Eprint + AllocGlobal, F: Files + Drop, B: Rings<Stored>
         logs: settings.logs,
         buffer: vec![in rt.alloc(); 0; 8192]?,
     };
-    run(&mut shared, host, poll, events, door)
+    run(&mut shared, host, poll, events, acceptor)
 }
 
 /// Serves connections by turns, up to so many at once. One that cannot be taken is none. It fails only where the system reports no events.
@@ -442,6 +442,14 @@ pub fn serve_turns<R: Clock + Eprint + AllocGlobal + Net, F: Files + Drop, B: Ri
 {
     let mut poll = Poll::new(rt)?;
     let mut events = Events::with_capacity(rt.alloc(), REPORTS)?;
-    let mut door = door_of(listener, settings);
-    serve_door(rt, site, host, settings, &mut poll, &mut events, &mut door)
+    let mut acceptor = door_of(listener, settings);
+    serve_door(
+        rt,
+        site,
+        host,
+        settings,
+        &mut poll,
+        &mut events,
+        &mut acceptor,
+    )
 }

@@ -13,6 +13,7 @@ mod socket;
 mod system_clock;
 mod unclosed;
 
+pub use filter_files::ParamSetting;
 pub use http_front::Failure;
 pub use request_log::failure_hint;
 pub use serve_command::{ServeOptions, run_serve};

@@ -3,7 +3,7 @@
 ghost use Rattle.http_front.specs.Driven.{IsAlive};
 
 use crate::head_reader::{Deadline, HeadReader, ReplyWriter};
-use crate::request_log::{RequestLog, tell_refused, tell_unready, told_by};
+use crate::request_log::{RequestLog, log_refused, log_unready, told_by};
 use crate::system_clock::SystemClock;
 use crate::unclosed::UnclosedConns;
 use byte_streams::{CountedSource, READS, SocketSink, StdSource};
@@ -108,14 +108,14 @@ fn serve_taken<R: Clock + Eprint + AllocGlobal, F: Files + Drop, B: Rings<Stored
     };
     if let Err(error) = set_up(stream, settings.patience) {
         if settings.logs {
-            tell_unready(rt, peer, number, &error);
+            log_unready(rt, peer, number, &error);
         }
         return None;
     }
     let told = told_by(settings.logs, &log);
     let outcome = serve_stream(rt, stream, site, host, &deadline, told);
     if settings.logs {
-        log.tell_end(outcome);
+        log.log_end(outcome);
     }
     let _ = drain(rt, stream);
     match outcome {
@@ -146,7 +146,7 @@ pub fn serve_all<R: Clock + Eprint + AllocGlobal, F: Files + Drop, B: Rings<Stor
             Ok(taken) => taken,
             Err(error) => {
                 if settings.logs {
-                    tell_refused(rt, &error);
+                    log_refused(rt, &error);
                 }
                 thread::sleep(rt, Duration::from_millis(PAUSE_MILLIS));
                 continue;

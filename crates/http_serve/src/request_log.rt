@@ -44,13 +44,13 @@ pub fn put_line(rt: &impl Eprint, line: Result<String, AllocError>) {
 }
 
 /// Tells why no connection was taken.
-pub fn tell_refused<R: Clock + Eprint + AllocGlobal>(rt: &R, why: &io::Error) {
+pub fn log_refused<R: Clock + Eprint + AllocGlobal>(rt: &R, why: &io::Error) {
     let at = Moment::now(rt);
     put_line(rt, format!(in rt.alloc(); "{at} cannot accept: {why}\n"));
 }
 
 /// Tells that a connection was taken and could not be set up.
-pub fn tell_unready<R: Clock + Eprint + AllocGlobal>(
+pub fn log_unready<R: Clock + Eprint + AllocGlobal>(
     rt: &R,
     peer: SocketAddr,
     number: u64,
@@ -129,7 +129,7 @@ fn or_dash(sent: &[u8]) -> &[u8] {
 impl<R: Clock + Eprint + AllocGlobal> RequestLog<'_, R> {
     /// Tells a request: its method and target, the status, the bytes of the body and the microseconds since its last bytes came; and of a
     /// failure the cause.
-    pub fn tell(&self, exchange: &Exchange<'_>) {
+    pub fn log(&self, exchange: &Exchange<'_>) {
         let at = Moment::now(self.runtime);
         let peer = self.peer;
         let number = self.number;
@@ -146,7 +146,7 @@ impl<R: Clock + Eprint + AllocGlobal> RequestLog<'_, R> {
     }
 
     /// Tells a connection: how many requests were answered, that it was idle too long, or why it ended.
-    pub fn tell_end(&self, outcome: Result<Served, FrontFault>) {
+    pub fn log_end(&self, outcome: Result<Served, FrontFault>) {
         let at = Moment::now(self.runtime);
         let peer = self.peer;
         let number = self.number;

@@ -10,15 +10,20 @@ use crate::listening::{ServeSettings, serve_all};
 use crate::site_reading::read_site;
 use bucket_kinds::DiskFiles;
 use filter_chain::{CheckedChain, Files, Host, Limits, RawRings, Rings, Stored};
-use filter_files::{ParamSetting, StartCause, StartError, read_chain, tell_stop, told, told_for};
+use filter_files::{
+    FileChain, ParamSetting, StartCause, StartError, read_chain, told, told_for, write_stop,
+};
 use http_message::Site;
-use module_tools::PlayFault;
+use module_commands::PlayFault;
 use std::alloc::{AllocError, Global};
 use std::net::{IpAddr, Net, SocketAddr, TcpListener, TcpStream};
 use std::os::unix::fs::FileExt;
 use std::process::ExitCode;
 use std::rt::{Clock, Runtime};
 use std::time::Duration;
+
+/// How many bytes a chain is handed at once at most.
+const MOST_BRIGADE_BYTES: u64 = 65_536;
 
 /// What `serve` is asked for.
 #[derive(Drop)]
@@ -103,7 +108,7 @@ where
 }
 
 /// The system does not tell what is ready.
-fn tell_events(rt: &impl Eprint) -> ExitCode {
+fn log_events(rt: &impl Eprint) -> ExitCode {
     let _ = rt.eprintln("cannot wait for connections");
     ExitCode::FAILURE
 }
@@ -115,6 +120,18 @@ fn is_told_where<R: Print + Eprint>(rt: &R, address: SocketAddr) -> bool {
         let _ = rt.eprintln(PlayFault::Write);
     }
     told
+}
+
+/// Warns where a brigade of the most bytes may take more instructions than a call may.
+fn warn_of_budget(rt: &impl Eprint, per_byte: u64, budget: u32) {
+    let most = per_byte.saturating_mul(MOST_BRIGADE_BYTES);
+    if u64::from(budget) < most {
+        let enough = most.saturating_add(MOST_BRIGADE_BYTES);
+        let _ = rt.eprintln(format_args!(
+            "warning: a byte takes up to {per_byte} instructions, so {MOST_BRIGADE_BYTES} bytes up to {most}, and a call may take {budget}: \
+a long page may be answered 500; give --budget {enough}"
+        ));
+    }
 }
 
 /// How connections are served.
@@ -142,12 +159,12 @@ fn serve_listener<R: Clock + Eprint + AllocGlobal + Net, F: Files + Drop, B: Rin
         return ExitCode::SUCCESS;
     }
     if listener.set_nonblocking(true).is_err() {
-        return tell_events(rt);
+        return log_events(rt);
     }
-    let door = mio::net::TcpListener::from_std(listener);
-    match serve_turns(rt, door, site, host, settings) {
+    let acceptor = mio::net::TcpListener::from_std(listener);
+    match serve_turns(rt, acceptor, site, host, settings) {
         Ok(()) => ExitCode::SUCCESS,
-        Err(_) => tell_events(rt),
+        Err(_) => log_events(rt),
     }
 }
 
@@ -185,7 +202,7 @@ where
 {
     match listen(rt, options) {
         Ok((listener, address)) => serve_behind(rt, options, host, site, listener, address),
-        Err(why) => tell_stop(rt, why),
+        Err(why) => write_stop(rt, why),
     }
 }
 
@@ -214,8 +231,9 @@ where
 {
     unless_too_few(rt.alloc(), options.at_once)?;
     let settings = options.settings.as_mut_slice();
-    let chain = read_chain(rt, options.modules.as_slice(), settings)?;
+    let FileChain { chain, per_byte } = read_chain(rt, options.modules.as_slice(), settings)?;
     let site = read_site(rt, options.site)?;
+    warn_of_budget(rt, per_byte, options.budget);
     serve_chain::<R, B>(rt, options, chain, &site)
 }
 
@@ -228,6 +246,6 @@ where
 {
     match serve_files::<R, RawRings<Stored>>(rt, options) {
         Ok(code) => code,
-        Err(why) => tell_stop(rt, why),
+        Err(why) => write_stop(rt, why),
     }
 }

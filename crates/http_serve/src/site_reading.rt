@@ -4,7 +4,7 @@ use byte_streams::{READ_BYTES, READS};
 use byte_text::{TextLine, first_line};
 use filter_files::{StartCause, StartError, cannot_read, told_for};
 use http_message::{SITE_BYTES, Site, SiteFault, SiteRefusal, site_line, site_of};
-use module_tools::NamedFile;
+use module_commands::NamedFile;
 use std::alloc::Global;
 use std::io::Read;
 use std::rt::Files as FileSystem;

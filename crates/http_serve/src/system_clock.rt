@@ -29,7 +29,7 @@ impl<R: rt::Clock + Eprint + AllocGlobal> Clock for SystemClock<'_, R> {
 
     fn answered(&mut self, exchange: &Exchange<'_>) {
         if let Some(log) = self.log {
-            log.tell(exchange);
+            log.log(exchange);
         }
     }
 }

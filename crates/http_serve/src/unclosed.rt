@@ -1,4 +1,4 @@
-//! Connections that could not be closed for want of memory.
+//! Connections that could not be closed for lack of memory.
 
 ghost use Rattle.std.specs.Prelude.{◌≡◌, IsTrue};
 ghost use Rattle.http_front.specs.Driven.{IsAlive};

@@ -11,12 +11,12 @@ use Rattle.life_state.proofs.OrderLaws.{leq_trans}
 use Rattle.life_check.specs.Certificates.{Certificate}
 use Rattle.life_check.specs.Typed.{is_below}
 use Rattle.life_check.proofs.Completed.{below_itself}
-use Rattle.life_cert.specs.declared.growth.StatePlace.{StatePlace}
-use Rattle.life_cert.specs.declared.growth.StatePlace.TheVariants as place
-use Rattle.life_cert.specs.Rounds.{Arrival, Grown, state_at, with_state, handed_by, handed_on, grow, arrive_by, arrive, arrived, round, nothing, begun, rounds, enough, made}
+use Rattle.life_cert.specs.declared.fixpoint.StatePlace.{StatePlace}
+use Rattle.life_cert.specs.declared.fixpoint.StatePlace.TheVariants as place
+use Rattle.life_cert.specs.Rounds.{Arrival, FixpointState, state_at, with_state, handed_by, handed_on, grow, merge_by, merge, arrived, round, nothing, begun, rounds, enough, made}
 use Rattle.life_cert.specs.Fitting.{IsFit, IsOf}
 use Rattle.life_cert.specs.Laws.{HasGrown, is_in_main, StatesAreClosed}
-use Rattle.life_cert.proofs.Arriving.{read_written, arrive_keeps}
+use Rattle.life_cert.proofs.Arriving.{read_written, merge_keeps}
 use Rattle.life_cert.proofs.RoundsFit.{handed_on_fits, alike, forgotten, rounds_fit, arrived_grows}
 use Rattle.life_cert.proofs.RoundsFormed.{Good, AllFormed, on_good, rounds_formed}
 use Rattle.life_cert.proofs.Enough.{rounds_end}
@@ -37,7 +37,7 @@ written (place.At pc) s c = upd_at c.at pc (Some s)
 under_at : (s t : State) (o : Option State) → o ≡ Some t → leq s t ≡ true → is_below s o ≡ true
 under_at s t o e h = ap (is_below s) e ∙ h
 
-under_by : (p : Program) (a : Arrival) (g : Grown) (o : Option State) → state_at g.states a.place ≡ o → IsOf p g → IsFit p a → Good p a → UnderCert (arrive_by o a g).states a
+under_by : (p : Program) (a : Arrival) (g : FixpointState) (o : Option State) → state_at g.states a.place ≡ o → IsOf p g → IsFit p a → Good p a → UnderCert (merge_by o a g).states a
 under_by p a g None e h fit good =
     under_at a.state a.state (state_at (with_state a.place a.state g.states) a.place) (written a.place a.state g.states) (below_itself p (is_in_main p a.place) a.state good)
 under_by p a g (Some t) e h fit good = by_order (leq a.state t) refl
@@ -48,17 +48,17 @@ under_by p a g (Some t) e h fit good = by_order (leq a.state t) refl
         under_at a.state (join t a.state) (state_at (with_state a.place (join t a.state) g.states) a.place) (written a.place (join t a.state) g.states)
         ((join_above t a.state (alike p t a.state (h.states a.place t e) fit.declared)).1)
 
-arrived_under : (p : Program) (rest : List Arrival) (g : Grown) → IsOf p g → All (IsFit p) rest → All (Good p) rest → All (UnderCert (arrived rest g).states) rest
+arrived_under : (p : Program) (rest : List Arrival) (g : FixpointState) → IsOf p g → All (IsFit p) rest → All (Good p) rest → All (UnderCert (arrived rest g).states) rest
 unfolding arrived
 arrived_under p [] g h fit good = All-nil (UnderCert g.states)
 arrived_under p (a ∷ rest) g h fit good =
     let first : IsFit p a = fit 0 a (omega arith) in
-    let next = arrive_keeps p a g h first in
+    let next = merge_keeps p a g h first in
     let others : All (IsFit p) rest = λ k d below. fit (suc k) d (omega arith) in
-    All-cons (UnderCert (arrived rest (arrive a g)).states) a rest
-    (under_grown a.state (state_at (arrive a g).states a.place) (state_at (arrived rest (arrive a g)).states a.place) (arrived_grows p rest (arrive a g) next others a.place)
+    All-cons (UnderCert (arrived rest (merge a g)).states) a rest
+    (under_grown a.state (state_at (merge a g).states a.place) (state_at (arrived rest (merge a g)).states a.place) (arrived_grows p rest (merge a g) next others a.place)
     (under_by p a g (state_at g.states a.place) refl h first (good 0 a (omega arith))))
-    (arrived_under p rest (arrive a g) next others (λ k d below. good (suc k) d (omega arith)))
+    (arrived_under p rest (merge a g) next others (λ k d below. good (suc k) d (omega arith)))
 
 -- Which places grew.
 
@@ -76,30 +76,30 @@ unfolding Has
 has_last v w [] e = inl e
 has_last v w (x ∷ xs) e = inr (has_last v w xs e)
 
-grow_same : (v w : StatePlace) (s : State) (g : Grown) → Has v (grow w s g).grown ⊎ (state_at (grow w s g).states v ≡ state_at g.states v)
-grow_same v w s g = elim (read_written w v s g.states) [ inl here ↦ inl (has_last v w g.grown (here.0)) | inr other ↦ inr other ]
+grow_same : (v w : StatePlace) (s : State) (g : FixpointState) → Has v (grow w s g).changed ⊎ (state_at (grow w s g).states v ≡ state_at g.states v)
+grow_same v w s g = elim (read_written w v s g.states) [ inl here ↦ inl (has_last v w g.changed (here.0)) | inr other ↦ inr other ]
 
-same_by : (v : StatePlace) (a : Arrival) (g : Grown) (o : Option State) → Has v (arrive_by o a g).grown ⊎ (state_at (arrive_by o a g).states v ≡ state_at g.states v)
+same_by : (v : StatePlace) (a : Arrival) (g : FixpointState) (o : Option State) → Has v (merge_by o a g).changed ⊎ (state_at (merge_by o a g).states v ≡ state_at g.states v)
 same_by v a g None = grow_same v a.place a.state g
-same_by v a g (Some t) = elim (leq a.state t) as (λ b. Has v (if b then g else grow a.place (join t a.state) g).grown ⊎
+same_by v a g (Some t) = elim (leq a.state t) as (λ b. Has v (if b then g else grow a.place (join t a.state) g).changed ⊎
     (state_at (if b then g else grow a.place (join t a.state) g).states v ≡ state_at g.states v)) [ true ↦ inr refl | false ↦ grow_same v a.place (join t a.state) g ]
 
-still_by : (v : StatePlace) (a : Arrival) (g : Grown) (o : Option State) → Has v g.grown → Has v (arrive_by o a g).grown
-still_by v a g None h = has_left v g.grown (a.place ∷ []) h
-still_by v a g (Some t) h = elim (leq a.state t) as (λ b. Has v (if b then g else grow a.place (join t a.state) g).grown) [ true ↦ h | false ↦ has_left v g.grown (a.place ∷ []) h ]
+still_by : (v : StatePlace) (a : Arrival) (g : FixpointState) (o : Option State) → Has v g.changed → Has v (merge_by o a g).changed
+still_by v a g None h = has_left v g.changed (a.place ∷ []) h
+still_by v a g (Some t) h = elim (leq a.state t) as (λ b. Has v (if b then g else grow a.place (join t a.state) g).changed) [ true ↦ h | false ↦ has_left v g.changed (a.place ∷ []) h ]
 
-still : (v : StatePlace) (rest : List Arrival) (g : Grown) → Has v g.grown → Has v (arrived rest g).grown
+still : (v : StatePlace) (rest : List Arrival) (g : FixpointState) → Has v g.changed → Has v (arrived rest g).changed
 unfolding arrived
 still v [] g h = h
-still v (a ∷ rest) g h = still v rest (arrive a g) (still_by v a g (state_at g.states a.place) h)
+still v (a ∷ rest) g h = still v rest (merge a g) (still_by v a g (state_at g.states a.place) h)
 
-arrived_same : (v : StatePlace) (rest : List Arrival) (g : Grown) → Has v (arrived rest g).grown ⊎ (state_at (arrived rest g).states v ≡ state_at g.states v)
+arrived_same : (v : StatePlace) (rest : List Arrival) (g : FixpointState) → Has v (arrived rest g).changed ⊎ (state_at (arrived rest g).states v ≡ state_at g.states v)
 unfolding arrived
 arrived_same v [] g = inr refl
 arrived_same v (a ∷ rest) g =
     elim (same_by v a g (state_at g.states a.place)) [
-      | inl has ↦ inl (still v rest (arrive a g) has)
-      | inr same ↦ elim (arrived_same v rest (arrive a g)) [ inl has ↦ inl has | inr later ↦ inr (later ∙ same) ]
+      | inl has ↦ inl (still v rest (merge a g) has)
+      | inr same ↦ elim (arrived_same v rest (merge a g)) [ inl has ↦ inl has | inr later ↦ inr (later ∙ same) ]
     ]
 
 -- What the places hand on that grew in the last round.
@@ -128,8 +128,8 @@ all_grown c d more (a ∷ rest) h =
     (all_grown c d more rest (λ k e below. h (suc k) e (omega arith)))
 
 -- a place grew in the last round, or what it hands on stands where it arrives
-abbrev ClosedBut : Program → Grown → StatePlace → Type 0
-ClosedBut p g w = Has w g.grown ⊎ All (UnderCert g.states) (handed_by p w (state_at g.states w))
+abbrev ClosedBut : Program → FixpointState → StatePlace → Type 0
+ClosedBut p g w = Has w g.changed ⊎ All (UnderCert g.states) (handed_by p w (state_at g.states w))
 
 begun_closed : (p : Program) (w : StatePlace) → ClosedBut p (begun p) w
 unfolding Has
@@ -144,18 +144,18 @@ begun_closed p w =
     nothing_at place.Ready = refl
     nothing_at (place.At pc) = refl
 
-round_closed : (p : Program) → IsModule p → (g : Grown) → IsOf p g → AllFormed p g.states → ((w : StatePlace) → ClosedBut p g w) → (w : StatePlace) → ClosedBut p (round p g) w
+round_closed : (p : Program) → IsModule p → (g : FixpointState) → IsOf p g → AllFormed p g.states → ((w : StatePlace) → ClosedBut p g w) → (w : StatePlace) → ClosedBut p (round p g) w
 round_closed p m g h formed closed w =
-    let start : Grown = record { states = g.states; grown = [] } in
-    let rest = handed_on p g.states g.grown in
+    let start : FixpointState = record { states = g.states; changed = [] } in
+    let rest = handed_on p g.states g.changed in
     let of : IsOf p start = forgotten p g h in
-    let fit : All (IsFit p) rest = handed_on_fits p m g.states g.grown h.states h.places in
-    let good : All (Good p) rest = on_good p m g.states g.grown formed in
+    let fit : All (IsFit p) rest = handed_on_fits p m g.states g.changed h.states h.places in
+    let good : All (Good p) rest = on_good p m g.states g.changed formed in
     elim (arrived_same w rest start) [
       | inl has ↦ inl has
       | inr same ↦ inr (subst (λ (o : Option State). All (UnderCert (round p g).states) (handed_by p w o)) (sym same)
           (elim (closed w) [
-            | inl has ↦ has_handed p g.states (UnderCert (round p g).states) w g.grown has (arrived_under p rest start of fit good)
+            | inl has ↦ has_handed p g.states (UnderCert (round p g).states) w g.changed has (arrived_under p rest start of fit good)
             | inr all ↦ all_grown g.states (round p g).states (arrived_grows p rest start of fit) (handed_by p w (state_at g.states w)) all
           ]))
     ]
@@ -173,6 +173,6 @@ pub states_are_closed : StatesAreClosed
 unfolding made
 states_are_closed p m w =
     elim (rounds_closed p m (enough p) w) [
-      | inl has ↦ absurd (none_has w (rounds (enough p) p (begun p)).grown (rounds_end p m) has)
+      | inl has ↦ absurd (none_has w (rounds (enough p) p (begun p)).changed (rounds_end p m) has)
       | inr all ↦ all
     ]

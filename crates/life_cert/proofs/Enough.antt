@@ -7,12 +7,12 @@ use Rattle.run_model.proofs.Updates.{upd_at, upd_off}
 use Rattle.life_state.specs.States.{State}
 use Rattle.life_state.specs.Order.{leq, join}
 use Rattle.life_check.specs.Certificates.{Certificate}
-use Rattle.life_cert.specs.declared.growth.StatePlace.{StatePlace}
-use Rattle.life_cert.specs.declared.growth.StatePlace.TheVariants as place
-use Rattle.life_cert.specs.Rounds.{Arrival, Grown, state_at, with_state, handed_on, grow, arrive_by, arrive, arrived, round, begun, rounds, enough}
+use Rattle.life_cert.specs.declared.fixpoint.StatePlace.{StatePlace}
+use Rattle.life_cert.specs.declared.fixpoint.StatePlace.TheVariants as place
+use Rattle.life_cert.specs.Rounds.{Arrival, FixpointState, state_at, with_state, handed_on, grow, merge_by, merge, arrived, round, begun, rounds, enough}
 use Rattle.life_cert.specs.Fitting.{is_inside, IsFit, IsOf}
 use Rattle.life_cert.specs.Laws.{RoundsEnd}
-use Rattle.life_cert.proofs.Arriving.{arrive_keeps}
+use Rattle.life_cert.proofs.Arriving.{merge_keeps}
 use Rattle.life_cert.proofs.RoundsFit.{handed_on_fits, alike, forgotten, rounds_fit}
 use Rattle.life_cert.proofs.Settled.{settled}
 use Rattle.life_cert.proofs.Rises.{sum_to, sum_more, sum_small}
@@ -48,13 +48,13 @@ heavier p (place.At pc) s c inside more =
     omega arith
 
 -- Each growth is paid for.
-abbrev Paid : Program → Grown → Grown → Type 0
-Paid p g h = load p g.states + length h.grown ≤ load p h.states + length g.grown
+abbrev Paid : Program → FixpointState → FixpointState → Type 0
+Paid p g h = load p g.states + length h.changed ≤ load p h.states + length g.changed
 
-grow_paid : (p : Program) (w : StatePlace) (s : State) (g : Grown) → is_inside (length p.code) w ≡ true → height (state_at g.states w) < height (Some s) → Paid p g (grow w s g)
+grow_paid : (p : Program) (w : StatePlace) (s : State) (g : FixpointState) → is_inside (length p.code) w ≡ true → height (state_at g.states w) < height (Some s) → Paid p g (grow w s g)
 grow_paid p w s g inside more =
     let load_more = heavier p w s g.states inside more in
-    let one_more : length (g.grown ++ w ∷ []) ≡ length g.grown + 1 = length-append g.grown (w ∷ []) in
+    let one_more : length (g.changed ++ w ∷ []) ≡ length g.changed + 1 = length-append g.changed (w ∷ []) in
     omega arith
 
 some_height : (s t : State) → weight s < weight t → height (Some s) < height (Some t)
@@ -65,7 +65,7 @@ none_height : (s : State) → height None < height (Some s)
 unfolding height
 none_height s = omega arith
 
-paid_by : (p : Program) (a : Arrival) (g : Grown) (o : Option State) → state_at g.states a.place ≡ o → IsOf p g → IsFit p a → Paid p g (arrive_by o a g)
+paid_by : (p : Program) (a : Arrival) (g : FixpointState) (o : Option State) → state_at g.states a.place ≡ o → IsOf p g → IsFit p a → Paid p g (merge_by o a g)
 paid_by p a g None e h fit = grow_paid p a.place a.state g fit.inside (subst (λ (o : Option State). height o < height (Some a.state)) (sym e) (none_height a.state))
 paid_by p a g (Some t) e h fit = by_order (leq a.state t) refl
   where
@@ -76,34 +76,34 @@ paid_by p a g (Some t) e h fit = by_order (leq a.state t) refl
         (subst (λ (o : Option State). height o < height (Some (join t a.state))) (sym e)
         (some_height t (join t a.state) (join_heavier t a.state (alike p t a.state (h.states a.place t e) fit.declared) apart)))
 
-arrived_paid : (p : Program) (rest : List Arrival) (g : Grown) → IsOf p g → All (IsFit p) rest → Paid p g (arrived rest g)
+arrived_paid : (p : Program) (rest : List Arrival) (g : FixpointState) → IsOf p g → All (IsFit p) rest → Paid p g (arrived rest g)
 unfolding arrived
 arrived_paid p [] g h fit = omega arith
 arrived_paid p (a ∷ rest) g h fit =
     let first : IsFit p a = fit 0 a (omega arith) in
-    let now : Paid p g (arrive a g) = paid_by p a g (state_at g.states a.place) refl h first in
-    let later : Paid p (arrive a g) (arrived rest (arrive a g)) = arrived_paid p rest (arrive a g) (arrive_keeps p a g h first) (λ k d below. fit (suc k) d (omega arith)) in
+    let now : Paid p g (merge a g) = paid_by p a g (state_at g.states a.place) refl h first in
+    let later : Paid p (merge a g) (arrived rest (merge a g)) = arrived_paid p rest (merge a g) (merge_keeps p a g h first) (λ k d below. fit (suc k) d (omega arith)) in
     omega arith
 
-round_paid : (p : Program) → IsModule p → (g : Grown) → IsOf p g → load p g.states + length (round p g).grown ≤ load p (round p g).states
+round_paid : (p : Program) → IsModule p → (g : FixpointState) → IsOf p g → load p g.states + length (round p g).changed ≤ load p (round p g).states
 round_paid p m g h =
-    let paid : Paid p (record { states = g.states; grown = [] }) (round p g)
-    = arrived_paid p (handed_on p g.states g.grown) (record { states = g.states; grown = [] }) (forgotten p g h) (handed_on_fits p m g.states g.grown h.states h.places) in
+    let paid : Paid p (record { states = g.states; changed = [] }) (round p g)
+    = arrived_paid p (handed_on p g.states g.changed) (record { states = g.states; changed = [] }) (forgotten p g h) (handed_on_fits p m g.states g.changed h.states h.places) in
     omega arith
 
-by_list : (p : Program) (g h : Grown) (n : ℕ) (ws : List StatePlace) → h.grown ≡ ws → n ≤ load p g.states → load p g.states + length h.grown ≤ load p h.states
-    → (h.grown ≡ []) ⊎ (suc n ≤ load p h.states)
+by_list : (p : Program) (g h : FixpointState) (n : ℕ) (ws : List StatePlace) → h.changed ≡ ws → n ≤ load p g.states → load p g.states + length h.changed ≤ load p h.states
+    → (h.changed ≡ []) ⊎ (suc n ≤ load p h.states)
 by_list p g h n [] e so_far paid = inl e
 by_list p g h n (w ∷ ws) e so_far paid = let long = ap length e in inr (omega arith)
 
-counted : (p : Program) → IsModule p → (n : ℕ) → ((rounds n p (begun p)).grown ≡ []) ⊎ (n ≤ load p (rounds n p (begun p)).states)
+counted : (p : Program) → IsModule p → (n : ℕ) → ((rounds n p (begun p)).changed ≡ []) ⊎ (n ≤ load p (rounds n p (begun p)).states)
 unfolding rounds
 counted p m zero = inr (omega arith)
 counted p m (suc n) =
     let g = rounds n p (begun p) in
     elim (counted p m n) [
-      | inl none ↦ inl (ap (λ (h : Grown). h.grown) (settled p g none) ∙ none)
-      | inr so_far ↦ by_list p g (round p g) n (round p g).grown refl so_far (round_paid p m g (rounds_fit p m n))
+      | inl none ↦ inl (ap (λ (h : FixpointState). h.changed) (settled p g none) ∙ none)
+      | inr so_far ↦ by_list p g (round p g) n (round p g).changed refl so_far (round_paid p m g (rounds_fit p m n))
     ]
 
 too_many : (p : Program) (n : ℕ) → enough p ≤ n → n ≤ 511 * (length p.code + 2) → ⊥

@@ -11,8 +11,8 @@ use Rattle.life_state.specs.States.{State}
 use Rattle.life_state.specs.Facts.{moved}
 use Rattle.life_state.specs.Rules.{Edges, rule, edges, cleared_under, at_main, at_return, at_end_of_request}
 use Rattle.life_check.specs.Certificates.{Certificate}
-use Rattle.life_cert.specs.declared.growth.StatePlace.{StatePlace}
-use Rattle.life_cert.specs.declared.growth.StatePlace.TheVariants as place
+use Rattle.life_cert.specs.declared.fixpoint.StatePlace.{StatePlace}
+use Rattle.life_cert.specs.declared.fixpoint.StatePlace.TheVariants as place
 use Rattle.life_cert.specs.Rounds.{Arrival, state_at, arriving, left_place, returned, edges_arriving, handed_by_rule, handed_by_line, handed_by, handed_on}
 use Rattle.life_cert.specs.Fitting.{is_inside, IsDeclared, IsFit}
 use Rattle.life_check.proofs.EdgeLaws.{OfSameVariables, SomeAlike, edges_alike, goes_on_next, rule_edges}

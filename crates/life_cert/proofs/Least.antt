@@ -15,9 +15,9 @@ use Rattle.life_state.proofs.JoinLeast.{join_least}
 use Rattle.life_state.proofs.WithinRules.{rules_are_monotone, entries_are_monotone}
 use Rattle.life_check.specs.Certificates.{Certificate, AreFormed}
 use Rattle.life_check.specs.Typed.{is_below, flows, main_from, request_end, left_by, exits, IsLed, IsTyped}
-use Rattle.life_cert.specs.declared.growth.StatePlace.{StatePlace}
-use Rattle.life_cert.specs.declared.growth.StatePlace.TheVariants as place
-use Rattle.life_cert.specs.Rounds.{Arrival, Grown, state_at, arriving, left_place, returned, edges_arriving, handed_by_rule, handed_by_line, handed_by, handed_on, grow, arrive_by, arrive, arrived}
+use Rattle.life_cert.specs.declared.fixpoint.StatePlace.{StatePlace}
+use Rattle.life_cert.specs.declared.fixpoint.StatePlace.TheVariants as place
+use Rattle.life_cert.specs.Rounds.{Arrival, FixpointState, state_at, arriving, left_place, returned, edges_arriving, handed_by_rule, handed_by_line, handed_by, handed_on, grow, merge_by, merge, arrived}
 use Rattle.life_cert.specs.Rounds.{nothing, begun, rounds, enough, made}
 use Rattle.life_check.proofs.Completed.{below_trans}
 use Rattle.life_cert.specs.Least.{IsBelow}
@@ -101,7 +101,7 @@ module _ (p : Program) (c : Certificate) (typed : IsTyped p c) (formed : AreForm
 
   -- What arrives.
 
-  grow_under : (w : StatePlace) (s : State) (g : Grown) → is_below s (state_at c w) ≡ true → IsBelow g.states c → IsBelow (grow w s g).states c
+  grow_under : (w : StatePlace) (s : State) (g : FixpointState) → is_below s (state_at c w) ≡ true → IsBelow g.states c → IsBelow (grow w s g).states c
   grow_under w s g new h v t e =
       elim (read_written w v s g.states) [
         | inl here ↦ subst (λ (x : StatePlace). is_below t (state_at c x) ≡ true) (sym (here.0)) (subst (λ (x : State). is_below x (state_at c w) ≡ true) (some_is (sym (here.1) ∙ e)) new)
@@ -111,17 +111,17 @@ module _ (p : Program) (c : Certificate) (typed : IsTyped p c) (formed : AreForm
       some_is : {x y : State} → Some x ≡ Some y → x ≡ y
       some_is k = cc
 
-  under_by : (a : Arrival) (g : Grown) (o : Option State) → state_at g.states a.place ≡ o → AllFormed p g.states → CertUnder c a → IsBelow g.states c → IsBelow (arrive_by o a g).states c
+  under_by : (a : Arrival) (g : FixpointState) (o : Option State) → state_at g.states a.place ≡ o → AllFormed p g.states → CertUnder c a → IsBelow g.states c → IsBelow (merge_by o a g).states c
   under_by a g None e f new h = grow_under a.place a.state g new h
   under_by a g (Some t) e f new h =
       elim (leq a.state t) as (λ b. IsBelow (if b then g else grow a.place (join t a.state) g).states c)
       [ true ↦ h | false ↦ grow_under a.place (join t a.state) g (join_under t a.state (state_at c a.place) (f.each a.place t e).formed (formed_at c formed a.place) (h a.place t e) new) h ]
 
-  arrived_under : (rest : List Arrival) (g : Grown) → AllFormed p g.states → All (Good p) rest → All (CertUnder c) rest → IsBelow g.states c → IsBelow (arrived rest g).states c
+  arrived_under : (rest : List Arrival) (g : FixpointState) → AllFormed p g.states → All (Good p) rest → All (CertUnder c) rest → IsBelow g.states c → IsBelow (arrived rest g).states c
   unfolding arrived
   arrived_under [] g f good new h = h
   arrived_under (a ∷ rest) g f good new h =
-      arrived_under rest (arrive a g) (formed_by p a g (state_at g.states a.place) refl f (good 0 a (omega arith))) (λ k d below. good (suc k) d (omega arith))
+      arrived_under rest (merge a g) (formed_by p a g (state_at g.states a.place) refl f (good 0 a (omega arith))) (λ k d below. good (suc k) d (omega arith))
       (λ k d below. new (suc k) d (omega arith))
       (under_by a g (state_at g.states a.place) refl f (new 0 a (omega arith)) h)
 
@@ -134,12 +134,12 @@ module _ (p : Program) (c : Certificate) (typed : IsTyped p c) (formed : AreForm
 
   rounds_under : IsModule p → (n : ℕ) → IsBelow (rounds n p (begun p)).states c
   unfolding rounds
-  rounds_under m zero = grow_under (place.At 0) (at_open (length p.pools) (length p.brigades)) (record { states = nothing p; grown = [] }) typed.opens none_under
+  rounds_under m zero = grow_under (place.At 0) (at_open (length p.pools) (length p.brigades)) (record { states = nothing p; changed = [] }) typed.opens none_under
   rounds_under m (suc n) =
       let g = rounds n p (begun p) in
       let f = rounds_formed p m n in
       let h = rounds_under m n in
-      arrived_under (handed_on p g.states g.grown) (record { states = g.states; grown = [] }) f (on_good p m g.states g.grown f) (on_under g.states g.grown f h) h
+      arrived_under (handed_on p g.states g.changed) (record { states = g.states; changed = [] }) f (on_good p m g.states g.changed f) (on_under g.states g.changed f h) h
 
 pub made_is_least : (p : Program) (c : Certificate) → IsModule p → AreFormed c → IsTyped p c → IsBelow (made p) c
 unfolding made

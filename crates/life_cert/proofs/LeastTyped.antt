@@ -25,9 +25,9 @@ use Rattle.life_check.specs.Typed.{is_below, flows, declares, has_in, has_no_cur
 use Rattle.life_check.specs.Typed.{IsTyped}
 use Rattle.life_check.proofs.Completed.{below_itself, declared, line_fits}
 use Rattle.life_check.proofs.TypedLaws.{none_typed}
-use Rattle.life_cert.specs.declared.growth.StatePlace.{StatePlace}
-use Rattle.life_cert.specs.declared.growth.StatePlace.TheVariants as place
-use Rattle.life_cert.specs.Rounds.{Arrival, Grown, state_at, with_state, arriving, left_place, returned, edges_arriving, handed_by_rule, handed_by_line, handed_by, handed_on, grow, arrive_by, arrive}
+use Rattle.life_cert.specs.declared.fixpoint.StatePlace.{StatePlace}
+use Rattle.life_cert.specs.declared.fixpoint.StatePlace.TheVariants as place
+use Rattle.life_cert.specs.Rounds.{Arrival, FixpointState, state_at, with_state, arriving, left_place, returned, edges_arriving, handed_by_rule, handed_by_line, handed_by, handed_on, grow, merge_by, merge}
 use Rattle.life_cert.specs.Rounds.{arrived, nothing, begun, rounds, enough, made}
 use Rattle.life_cert.specs.Laws.{is_in_main}
 use Rattle.life_cert.proofs.Arriving.{read_written}
@@ -100,7 +100,7 @@ joined_bare (place.At pc) s t f g = tt
 some_is : {x y : State} → Some x ≡ Some y → x ≡ y
 some_is e = cc
 
-grow_bare : (w : StatePlace) (s : State) (g : Grown) → AllBare g.states → BareState w s → AllBare (grow w s g).states
+grow_bare : (w : StatePlace) (s : State) (g : FixpointState) → AllBare g.states → BareState w s → AllBare (grow w s g).states
 unfolding AllBare
 grow_bare w s g h new v t e =
     elim (read_written w v s g.states) [
@@ -108,17 +108,17 @@ grow_bare w s g h new v t e =
       | inr other ↦ h v t (sym other ∙ e)
     ]
 
-bare_by : (a : Arrival) (g : Grown) (o : Option State) → state_at g.states a.place ≡ o → AllBare g.states → IsBareArrival a → AllBare (arrive_by o a g).states
+bare_by : (a : Arrival) (g : FixpointState) (o : Option State) → state_at g.states a.place ≡ o → AllBare g.states → IsBareArrival a → AllBare (merge_by o a g).states
 unfolding AllBare
 bare_by a g None e h new = grow_bare a.place a.state g h new
 bare_by a g (Some t) e h new =
     elim (leq a.state t) as (λ b. AllBare (if b then g else grow a.place (join t a.state) g).states)
     [ true ↦ h | false ↦ grow_bare a.place (join t a.state) g h (joined_bare a.place t a.state (h a.place t e) new) ]
 
-arrived_bare : (rest : List Arrival) (g : Grown) → AllBare g.states → All IsBareArrival rest → AllBare (arrived rest g).states
+arrived_bare : (rest : List Arrival) (g : FixpointState) → AllBare g.states → All IsBareArrival rest → AllBare (arrived rest g).states
 unfolding arrived
 arrived_bare [] g h new = h
-arrived_bare (a ∷ rest) g h new = arrived_bare rest (arrive a g) (bare_by a g (state_at g.states a.place) refl h (new 0 a (omega arith))) (λ k d below. new (suc k) d (omega arith))
+arrived_bare (a ∷ rest) g h new = arrived_bare rest (merge a g) (bare_by a g (state_at g.states a.place) refl h (new 0 a (omega arith))) (λ k d below. new (suc k) d (omega arith))
 
 none_bare : (p : Program) → AllBare (nothing p)
 unfolding AllBare
@@ -128,11 +128,11 @@ none_bare p (place.At pc) s e = tt
 
 rounds_bare : (p : Program) (n : ℕ) → AllBare (rounds n p (begun p)).states
 unfolding rounds
-rounds_bare p zero = grow_bare (place.At 0) (at_open (length p.pools) (length p.brigades)) (record { states = nothing p; grown = [] }) (none_bare p) tt
+rounds_bare p zero = grow_bare (place.At 0) (at_open (length p.pools) (length p.brigades)) (record { states = nothing p; changed = [] }) (none_bare p) tt
 rounds_bare p (suc n) =
     let g = rounds n p (begun p) in
     let h = rounds_bare p n in
-    arrived_bare (handed_on p g.states g.grown) (record { states = g.states; grown = [] }) h (on_bare p g.states g.grown h)
+    arrived_bare (handed_on p g.states g.changed) (record { states = g.states; changed = [] }) h (on_bare p g.states g.changed h)
 
 -- `open` begins below the first state.
 opens_under : (p : Program) → IsModule p → (n : ℕ) → is_below (at_open (length p.pools) (length p.brigades)) (state_at (rounds n p (begun p)).states (place.At 0)) ≡ true

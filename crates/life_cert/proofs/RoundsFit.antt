@@ -10,13 +10,13 @@ use Rattle.life_state.proofs.JoinAbove.{join_above}
 use Rattle.life_state.proofs.OrderLaws.{leq_trans}
 use Rattle.life_state.proofs.Tests.{and2}
 use Rattle.life_check.specs.Certificates.{Certificate}
-use Rattle.life_cert.specs.declared.growth.StatePlace.{StatePlace}
-use Rattle.life_cert.specs.declared.growth.StatePlace.TheVariants as place
-use Rattle.life_cert.specs.Rounds.{Arrival, Grown, state_at, handed_by_line, handed_by, handed_on, grow, arrive_by, arrive, arrived, round, begun, rounds}
+use Rattle.life_cert.specs.declared.fixpoint.StatePlace.{StatePlace}
+use Rattle.life_cert.specs.declared.fixpoint.StatePlace.TheVariants as place
+use Rattle.life_cert.specs.Rounds.{Arrival, FixpointState, state_at, handed_by_line, handed_by, handed_on, grow, merge_by, merge, arrived, round, begun, rounds}
 use Rattle.life_cert.specs.Fitting.{is_inside, IsDeclared, IsFit, IsOf}
 use Rattle.life_cert.specs.Laws.{HasGrown, StatesOnlyGrow}
 use Rattle.life_cert.proofs.Handed.{line_fits, ready_fits}
-use Rattle.life_cert.proofs.Arriving.{read_written, arrive_keeps, begun_fits}
+use Rattle.life_cert.proofs.Arriving.{read_written, merge_keeps, begun_fits}
 
 -- What is handed on fits.
 
@@ -62,15 +62,15 @@ alike p s t h k =
     and2 (s.pool_count == t.pool_count) (s.brigade_count == t.brigade_count) (eq-eqb s.pool_count t.pool_count (h.pools ∙ sym k.pools))
     (eq-eqb s.brigade_count t.brigade_count (h.brigades ∙ sym k.brigades))
 
-grown_at : (w v : StatePlace) (s : State) (g : Grown) → HasGrown (state_at g.states w) (Some s) → HasGrown (state_at g.states v) (state_at (grow w s g).states v)
+grown_at : (w v : StatePlace) (s : State) (g : FixpointState) → HasGrown (state_at g.states w) (Some s) → HasGrown (state_at g.states v) (state_at (grow w s g).states v)
 grown_at w v s g h =
     elim (read_written w v s g.states) [
       | inl here ↦ subst (HasGrown (state_at g.states v)) (sym (here.1)) (subst (λ (x : StatePlace). HasGrown (state_at g.states x) (Some s)) (sym (here.0)) h)
       | inr other ↦ subst (HasGrown (state_at g.states v)) (sym other) (grown_same (state_at g.states v))
     ]
 
-grows_by : (p : Program) (a : Arrival) (g : Grown) (o : Option State) → state_at g.states a.place ≡ o → IsOf p g → IsFit p a → (v : StatePlace)
-    → HasGrown (state_at g.states v) (state_at (arrive_by o a g).states v)
+grows_by : (p : Program) (a : Arrival) (g : FixpointState) (o : Option State) → state_at g.states a.place ≡ o → IsOf p g → IsFit p a → (v : StatePlace)
+    → HasGrown (state_at g.states v) (state_at (merge_by o a g).states v)
 grows_by p a g None e h fit v = grown_at a.place v a.state g (subst (λ (x : Option State). HasGrown x (Some a.state)) (sym e) tt)
 grows_by p a g (Some t) e h fit v =
     elim (leq a.state t) as (λ b. HasGrown (state_at g.states v) (state_at (if b then g else grow a.place (join t a.state) g).states v)) [
@@ -79,27 +79,27 @@ grows_by p a g (Some t) e h fit v =
           (subst (λ (x : Option State). HasGrown x (Some (join t a.state))) (sym e) (inr ((join_above t a.state (alike p t a.state (h.states a.place t e) fit.declared)).0)))
     ]
 
-arrived_fits : (p : Program) (rest : List Arrival) (g : Grown) → IsOf p g → All (IsFit p) rest → IsOf p (arrived rest g)
+arrived_fits : (p : Program) (rest : List Arrival) (g : FixpointState) → IsOf p g → All (IsFit p) rest → IsOf p (arrived rest g)
 unfolding arrived
 arrived_fits p [] g h fit = h
-arrived_fits p (a ∷ rest) g h fit = arrived_fits p rest (arrive a g) (arrive_keeps p a g h (fit 0 a (omega arith))) (λ k d below. fit (suc k) d (omega arith))
+arrived_fits p (a ∷ rest) g h fit = arrived_fits p rest (merge a g) (merge_keeps p a g h (fit 0 a (omega arith))) (λ k d below. fit (suc k) d (omega arith))
 
-pub arrived_grows : (p : Program) (rest : List Arrival) (g : Grown) → IsOf p g → All (IsFit p) rest → (v : StatePlace) → HasGrown (state_at g.states v) (state_at (arrived rest g).states v)
+pub arrived_grows : (p : Program) (rest : List Arrival) (g : FixpointState) → IsOf p g → All (IsFit p) rest → (v : StatePlace) → HasGrown (state_at g.states v) (state_at (arrived rest g).states v)
 unfolding arrived
 arrived_grows p [] g h fit v = grown_same (state_at g.states v)
 arrived_grows p (a ∷ rest) g h fit v =
     let first : IsFit p a = fit 0 a (omega arith) in
-    grown_on (state_at g.states v) (state_at (arrive a g).states v) (state_at (arrived rest (arrive a g)).states v)
+    grown_on (state_at g.states v) (state_at (merge a g).states v) (state_at (arrived rest (merge a g)).states v)
     (grows_by p a g (state_at g.states a.place) refl h first v)
-    (arrived_grows p rest (arrive a g) (arrive_keeps p a g h first) (λ k d below. fit (suc k) d (omega arith)) v)
+    (arrived_grows p rest (merge a g) (merge_keeps p a g h first) (λ k d below. fit (suc k) d (omega arith)) v)
 
 -- Rounds.
 
-pub forgotten : (p : Program) (g : Grown) → IsOf p g → IsOf p (record { states = g.states; grown = [] })
+pub forgotten : (p : Program) (g : FixpointState) → IsOf p g → IsOf p (record { states = g.states; changed = [] })
 forgotten p g h = record { few = h.few; lines = h.lines; states = h.states; places = All-nil (λ w. is_inside (length p.code) w ≡ true) }
 
-round_fits : (p : Program) → IsModule p → (g : Grown) → IsOf p g → IsOf p (round p g)
-round_fits p m g h = arrived_fits p (handed_on p g.states g.grown) (record { states = g.states; grown = [] }) (forgotten p g h) (handed_on_fits p m g.states g.grown h.states h.places)
+round_fits : (p : Program) → IsModule p → (g : FixpointState) → IsOf p g → IsOf p (round p g)
+round_fits p m g h = arrived_fits p (handed_on p g.states g.changed) (record { states = g.states; changed = [] }) (forgotten p g h) (handed_on_fits p m g.states g.changed h.states h.places)
 
 pub rounds_fit : (p : Program) → IsModule p → (n : ℕ) → IsOf p (rounds n p (begun p))
 unfolding rounds
@@ -111,4 +111,4 @@ unfolding rounds
 states_only_grow p m n w =
     let g = rounds n p (begun p) in
     let h = rounds_fit p m n in
-    arrived_grows p (handed_on p g.states g.grown) (record { states = g.states; grown = [] }) (forgotten p g h) (handed_on_fits p m g.states g.grown h.states h.places) w
+    arrived_grows p (handed_on p g.states g.changed) (record { states = g.states; changed = [] }) (forgotten p g h) (handed_on_fits p m g.states g.changed h.states h.places) w

@@ -16,9 +16,9 @@ use Rattle.life_state.proofs.FormRules.{rules_keep_form}
 use Rattle.life_state.proofs.FormJoins.{joins_keep_form}
 use Rattle.life_state.proofs.FormEntries.{entries_are_formed}
 use Rattle.life_check.specs.Certificates.{Certificate}
-use Rattle.life_cert.specs.declared.growth.StatePlace.{StatePlace}
-use Rattle.life_cert.specs.declared.growth.StatePlace.TheVariants as place
-use Rattle.life_cert.specs.Rounds.{Arrival, Grown, state_at, arriving, left_place, returned, edges_arriving, handed_by_rule, handed_by_line, handed_by, handed_on, grow, arrive_by, arrive, arrived}
+use Rattle.life_cert.specs.declared.fixpoint.StatePlace.{StatePlace}
+use Rattle.life_cert.specs.declared.fixpoint.StatePlace.TheVariants as place
+use Rattle.life_cert.specs.Rounds.{Arrival, FixpointState, state_at, arriving, left_place, returned, edges_arriving, handed_by_rule, handed_by_line, handed_by, handed_on, grow, merge_by, merge, arrived}
 use Rattle.life_cert.specs.Rounds.{nothing, begun, rounds}
 use Rattle.life_cert.specs.Laws.{is_in_main, StatesAreFormed}
 use Rattle.life_check.proofs.EdgeLaws.{goes_on_next, rule_edges}
@@ -115,7 +115,7 @@ on_good p m c (w ∷ ws) h = All-append (Good p) (handed_by p w (state_at c w)) 
 
 -- What has arrived.
 
-grow_formed : (p : Program) (w : StatePlace) (s : State) (g : Grown) → AllFormed p g.states → IsFormedIn p (is_in_main p w) s → AllFormed p (grow w s g).states
+grow_formed : (p : Program) (w : StatePlace) (s : State) (g : FixpointState) → AllFormed p g.states → IsFormedIn p (is_in_main p w) s → AllFormed p (grow w s g).states
 grow_formed p w s g h new = record {
   each = λ v t e. elim (read_written w v s g.states) [
     | inl here ↦ subst (λ (x : StatePlace). IsFormedIn p (is_in_main p x) t) (sym (here.0)) (subst (IsFormedIn p (is_in_main p w)) (some_is (sym (here.1) ∙ e)) new)
@@ -123,17 +123,17 @@ grow_formed p w s g h new = record {
   ];
 }
 
-pub formed_by : (p : Program) (a : Arrival) (g : Grown) (o : Option State) → state_at g.states a.place ≡ o → AllFormed p g.states → Good p a → AllFormed p (arrive_by o a g).states
+pub formed_by : (p : Program) (a : Arrival) (g : FixpointState) (o : Option State) → state_at g.states a.place ≡ o → AllFormed p g.states → Good p a → AllFormed p (merge_by o a g).states
 formed_by p a g None e h good = grow_formed p a.place a.state g h good
 formed_by p a g (Some t) e h good =
     elim (leq a.state t) as (λ b. AllFormed p (if b then g else grow a.place (join t a.state) g).states)
     [ true ↦ h | false ↦ grow_formed p a.place (join t a.state) g h (joins_keep_form p (is_in_main p a.place) t a.state (h.each a.place t e) good) ]
 
-arrived_formed : (p : Program) (rest : List Arrival) (g : Grown) → AllFormed p g.states → All (Good p) rest → AllFormed p (arrived rest g).states
+arrived_formed : (p : Program) (rest : List Arrival) (g : FixpointState) → AllFormed p g.states → All (Good p) rest → AllFormed p (arrived rest g).states
 unfolding arrived
 arrived_formed p [] g h good = h
 arrived_formed p (a ∷ rest) g h good =
-    arrived_formed p rest (arrive a g) (formed_by p a g (state_at g.states a.place) refl h (good 0 a (omega arith))) (λ k d below. good (suc k) d (omega arith))
+    arrived_formed p rest (merge a g) (formed_by p a g (state_at g.states a.place) refl h (good 0 a (omega arith))) (λ k d below. good (suc k) d (omega arith))
 
 -- Rounds.
 
@@ -149,7 +149,7 @@ pub begun_formed : (p : Program) → IsModule p → AllFormed p (begun p).states
 begun_formed p m =
     let first = m.opening.some in
     let second = m.initial.some in
-    grow_formed p (place.At 0) (at_open (length p.pools) (length p.brigades)) (record { states = nothing p; grown = [] }) (none_formed p)
+    grow_formed p (place.At 0) (at_open (length p.pools) (length p.brigades)) (record { states = nothing p; changed = [] }) (none_formed p)
     (subst (λ (b : Bool). IsFormedIn p b (at_open (length p.pools) (length p.brigades))) (sym (lt-leb p.main 0 (omega arith))) (entries_are_formed.opens p m))
 
 pub rounds_formed : (p : Program) → IsModule p → (n : ℕ) → AllFormed p (rounds n p (begun p)).states
@@ -158,7 +158,7 @@ rounds_formed p m zero = begun_formed p m
 rounds_formed p m (suc n) =
     let g = rounds n p (begun p) in
     let h = rounds_formed p m n in
-    arrived_formed p (handed_on p g.states g.grown) (record { states = g.states; grown = [] }) h (on_good p m g.states g.grown h)
+    arrived_formed p (handed_on p g.states g.changed) (record { states = g.states; changed = [] }) h (on_good p m g.states g.changed h)
 
 pub states_are_formed : StatesAreFormed
 states_are_formed p m n = (rounds_formed p m n).each

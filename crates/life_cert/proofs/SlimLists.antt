@@ -8,7 +8,7 @@ use Rattle.life_state.specs.declared.state.State as code
 use Rattle.life_state.specs.Seen.{seen_some}
 use Rattle.life_check.specs.declared.cert.Cert.{Cert}
 use Rattle.life_check.specs.Seen.{seen_line, seen_cert}
-use Rattle.life_check.specs.Slim.{is_head, slim_of, slim_form}
+use Rattle.life_check.specs.Slim.{is_leader, slim_of, slim_form}
 use Rattle.life_check.proofs.Meant.{ends_with_lines}
 use Rattle.life_check.proofs.Targets.{head_inside}
 
@@ -16,29 +16,29 @@ use Rattle.life_check.proofs.Targets.{head_inside}
 pub kept_state : (p : Program) (c : Cert) (pc : ℕ) → c.slim ≡ true → (seen_cert c).at pc ≡ (slim_form p c).at pc
 kept_state p c pc w = ap (λ (b : Bool). (if b then seen_cert c else slim_of p (seen_cert c)).at pc) (sym w)
 
-pub head_state : (p : Program) (c : Cert) (pc : ℕ) → c.slim ≡ false → is_head p pc ≡ true → (seen_cert c).at pc ≡ (slim_form p c).at pc
+pub head_state : (p : Program) (c : Cert) (pc : ℕ) → c.slim ≡ false → is_leader p pc ≡ true → (seen_cert c).at pc ≡ (slim_form p c).at pc
 head_state p c pc w h =
     ap (λ (b : Bool). if b then (seen_cert c).at pc else None) (sym h) ∙ ap (λ (b : Bool). (if b then seen_cert c else slim_of p (seen_cert c)).at pc) (sym w)
 
-pub no_state : (p : Program) (c : Cert) (pc : ℕ) → c.slim ≡ false → is_head p pc ≡ false → None ≡ (slim_form p c).at pc
+pub no_state : (p : Program) (c : Cert) (pc : ℕ) → c.slim ≡ false → is_leader p pc ≡ false → None ≡ (slim_form p c).at pc
 no_state p c pc w h =
     ap (λ (b : Bool). if b then (seen_cert c).at pc else None) (sym h) ∙ ap (λ (b : Bool). (if b then seen_cert c else slim_of p (seen_cert c)).at pc) (sym w)
 
-pub no_head : (p : Program) (pc : ℕ) → IsModule p → 1025 ≤ pc → is_head p pc ≡ false
-no_head p pc m far = of (is_head p pc) refl
+pub no_head : (p : Program) (pc : ℕ) → IsModule p → 1025 ≤ pc → is_leader p pc ≡ false
+no_head p pc m far = of (is_leader p pc) refl
   where
-    of : (b : Bool) → is_head p pc ≡ b → b ≡ false
+    of : (b : Bool) → is_leader p pc ≡ b → b ≡ false
     of false e = refl
     of true e = let inside = head_inside p pc m e in let size = m.size in absurd (omega (arith, inside, size, far))
 
 -- behind its lines it has no state
 past_form : (p : Program) (c : Cert) (pc : ℕ) → length c.at.items ≤ pc → (slim_form p c).at pc ≡ None
-past_form p c pc past = of c.slim refl (is_head p pc) refl
+past_form p c pc past = of c.slim refl (is_leader p pc) refl
   where
     none : (seen_cert c).at pc ≡ None
     none = ends_with_lines c pc past
 
-    of : (s : Bool) → c.slim ≡ s → (b : Bool) → is_head p pc ≡ b → (slim_form p c).at pc ≡ None
+    of : (s : Bool) → c.slim ≡ s → (b : Bool) → is_leader p pc ≡ b → (slim_form p c).at pc ≡ None
     of true w b h = sym (kept_state p c pc w) ∙ none
     of false w true h = sym (head_state p c pc w h) ∙ none
     of false w false h = sym (no_state p c pc w h)

@@ -346,7 +346,7 @@ cert_texts_are_short v slim c named h =
     let idle = between_line (codes "idle ") c.idle in
     let ready = between_line (codes "ready ") c.ready in
     let most = total 0 1024 (λ pc. 1193) in
-    let heads = heads_are v in
+    let leaders = heads_are v in
     let whole : IsWithin (7 + head_first v + head_shape v + (1193 + (1194 + (most + 4)))) (head_lines v slim ++ (idle ++ (ready ++ (lines ++ codes "end\n")))) =
     both (7 + head_first v + head_shape v) (1193 + (1194 + (most + 4))) (head_lines v slim) (idle ++ (ready ++ (lines ++ codes "end\n")))
     (both (7 + head_first v) (head_shape v) (first_line two slim) (vars_line v ++ code_line v) (first_within v slim) (shape_within v named))
@@ -357,7 +357,7 @@ cert_texts_are_short v slim c named h =
     let few = whole.within in
     let sum = most_is in
     let same = ap (λ (t : List ℕ). length (head_lines v slim ++ (idle ++ (ready ++ (t ++ codes "end\n"))))) (all_lines two c h) in
-    omega (arith, few, sum, same, heads)
+    omega (arith, few, sum, same, leaders)
 
 few_more : (v : CertVersion) → head_more v ≤ 24
 few_more version.One = omega arith

@@ -2,9 +2,9 @@
 use Rattle.std.specs.Prelude.{◌≡◌, ◌≤◌, ℕ, Bool, true, nat_lt, length, All, Some}
 use Rattle.module_code.specs.Program.{Program}
 use Rattle.life_state.specs.States.{State}
-use Rattle.life_cert.specs.declared.growth.StatePlace.{StatePlace}
-use Rattle.life_cert.specs.declared.growth.StatePlace.TheVariants as place
-use Rattle.life_cert.specs.Rounds.{Arrival, Grown, state_at}
+use Rattle.life_cert.specs.declared.fixpoint.StatePlace.{StatePlace}
+use Rattle.life_cert.specs.declared.fixpoint.StatePlace.TheVariants as place
+use Rattle.life_cert.specs.Rounds.{Arrival, FixpointState, state_at}
 
 -- a place of a module with so many instructions
 abbrev pub is_inside : ℕ → StatePlace → Bool
@@ -22,8 +22,8 @@ pub record IsFit (p : Program) (a : Arrival) : Type 0 where
   pub inside : is_inside (length p.code) a.place ≡ true
   pub declared : IsDeclared p a.state
 
-pub record IsOf (p : Program) (g : Grown) : Type 0 where
+pub record IsOf (p : Program) (g : FixpointState) : Type 0 where
   pub few : length p.pools ≤ 8
   pub lines : g.states.lines ≡ length p.code
   pub states : (w : StatePlace) (s : State) → state_at g.states w ≡ Some s → IsDeclared p s
-  pub places : All (λ w. is_inside (length p.code) w ≡ true) g.grown
+  pub places : All (λ w. is_inside (length p.code) w ≡ true) g.changed

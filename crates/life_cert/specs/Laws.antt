@@ -5,8 +5,8 @@ use Rattle.life_state.specs.States.{State}
 use Rattle.life_state.specs.Order.{leq}
 use Rattle.life_state.specs.FormLaws.{IsFormedIn}
 use Rattle.life_check.specs.Typed.{is_below}
-use Rattle.life_cert.specs.declared.growth.StatePlace.{StatePlace}
-use Rattle.life_cert.specs.declared.growth.StatePlace.TheVariants as place
+use Rattle.life_cert.specs.declared.fixpoint.StatePlace.{StatePlace}
+use Rattle.life_cert.specs.declared.fixpoint.StatePlace.TheVariants as place
 use Rattle.life_cert.specs.Rounds.{state_at, handed_by, begun, rounds, enough, made}
 
 -- a state stays, or one above it comes in its place
@@ -21,7 +21,7 @@ StatesOnlyGrow = (p : Program) → IsModule p → (n : ℕ) (w : StatePlace) →
 
 -- After so many rounds no state has grown in the last one.
 abbrev pub RoundsEnd : Type 0
-RoundsEnd = (p : Program) → IsModule p → (rounds (enough p) p (begun p)).grown ≡ []
+RoundsEnd = (p : Program) → IsModule p → (rounds (enough p) p (begun p)).changed ≡ []
 
 abbrev pub is_in_main : Program → StatePlace → Bool
 is_in_main p place.Idle = false

@@ -1,14 +1,14 @@
 -- The words that the clauses of this crate's code share, from where they are defined.
 pub use Rattle.module_code.specs.Program.{IsModule}
 pub use Rattle.byte_text.specs.Bytes.{after_token}
-pub use Rattle.byte_text.specs.Writes.{Wrote}
+pub use Rattle.byte_text.specs.Writes.{Wrote, writer_state}
 pub use Rattle.life_state.specs.Form.{IsFormed}
 pub use Rattle.life_state.specs.Seen.{seen, seen_brigade, seen_cursor, seen_edges, seen_homes, seen_some}
 pub use Rattle.life_state.specs.States.{Loose}
 pub use Rattle.life_check.specs.Certificates.{AreFormed, Certificate}
 pub use Rattle.life_check.specs.ChainTheorem.{ChainNeverFaults}
 pub use Rattle.life_check.specs.Seen.{seen_cert, seen_line}
-pub use Rattle.life_check.specs.Slim.{Accepts, AreHeads, slim_form}
+pub use Rattle.life_check.specs.Slim.{Accepts, AreLeaders, slim_form}
 pub use Rattle.life_check.specs.Typed.{IsTyped}
 pub use Rattle.life_check.specs.Versions.{is_in_range, version_two}
 pub use Rattle.life_cert.specs.CertText.{between_line, cert_text, code_line, earlier, first_line, first_with, head_lines, is_again, is_two, pc_line}
@@ -19,7 +19,7 @@ pub use Rattle.life_cert.specs.Least.{IsBelow}
 pub use Rattle.life_cert.specs.Made.{IsCertMade, IsRefused}
 pub use Rattle.life_cert.specs.Reading.{EndTold, HaveSameStates, IsCertText, IsPrinted, IsState, IsStateOrNone, IsReported, IsToldOf}
 pub use Rattle.life_cert.specs.Reading.{IsToldState, more_than}
-pub use Rattle.life_cert.specs.Rounds.{arrive, arriving, begun, edges_arriving, enough, grow, handed_by, handed_by_line, handed_on}
+pub use Rattle.life_cert.specs.Rounds.{merge, arriving, begun, edges_arriving, enough, grow, handed_by, handed_by_line, handed_on}
 pub use Rattle.life_cert.specs.Rounds.{left_place, made, returned, round, state_at, with_state}
 pub use Rattle.life_cert.specs.SeenGrowth.{seen_arrival, seen_arrivals, seen_growth}
 pub use Rattle.life_cert.specs.StateFromText.{at_past, at_pools, at_read, behind_name, brigades_there, classes_past, classes_read}

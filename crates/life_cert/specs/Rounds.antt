@@ -9,8 +9,8 @@ use Rattle.life_state.specs.States.{State}
 use Rattle.life_state.specs.Order.{leq, join}
 use Rattle.life_state.specs.Rules.{Edges, rule, at_open, at_main, at_return, at_end_of_request}
 use Rattle.life_check.specs.Certificates.{Certificate}
-use Rattle.life_cert.specs.declared.growth.StatePlace.{StatePlace}
-use Rattle.life_cert.specs.declared.growth.StatePlace.TheVariants as place
+use Rattle.life_cert.specs.declared.fixpoint.StatePlace.{StatePlace}
+use Rattle.life_cert.specs.declared.fixpoint.StatePlace.TheVariants as place
 
 -- a state that is handed on to a place: `idle`, `ready`, or an instruction
 pub record Arrival : Type 0 where
@@ -18,9 +18,9 @@ pub record Arrival : Type 0 where
   pub state : State
 
 -- the states so far, and the places whose states grew in the last round
-pub record Grown : Type 0 where
+pub record FixpointState : Type 0 where
   pub states : Certificate
-  pub grown : List StatePlace
+  pub changed : List StatePlace
 
 -- The state of a place.
 
@@ -73,28 +73,28 @@ handed_on p c (w ∷ ws) = handed_by p w (state_at c w) ++ handed_on p c ws
 
 -- What arrives.
 
-abbrev pub grow : StatePlace → State → Grown → Grown
-grow w s g = record { states = with_state w s g.states; grown = g.grown ++ w ∷ [] }
+abbrev pub grow : StatePlace → State → FixpointState → FixpointState
+grow w s g = record { states = with_state w s g.states; changed = g.changed ++ w ∷ [] }
 
 -- the state that is there grows, where it does not already stand above
-abbrev pub arrive_by : Option State → Arrival → Grown → Grown
-arrive_by None a g = grow a.place a.state g
-arrive_by (Some t) a g = if leq a.state t then g else grow a.place (join t a.state) g
+abbrev pub merge_by : Option State → Arrival → FixpointState → FixpointState
+merge_by None a g = grow a.place a.state g
+merge_by (Some t) a g = if leq a.state t then g else grow a.place (join t a.state) g
 
-abbrev pub arrive : Arrival → Grown → Grown
-arrive a g = arrive_by (state_at g.states a.place) a g
+abbrev pub merge : Arrival → FixpointState → FixpointState
+merge a g = merge_by (state_at g.states a.place) a g
 
-unfoldable pub arrived : List Arrival → Grown → Grown
+unfoldable pub arrived : List Arrival → FixpointState → FixpointState
 arrived [] g = g
-arrived (a ∷ rest) g = arrived rest (arrive a g)
+arrived (a ∷ rest) g = arrived rest (merge a g)
 
 -- Rounds.
 
 -- each place whose state grew in the last round hands on what it leads to, all at once
-abbrev pub round : Program → Grown → Grown
-round p g = arrived (handed_on p g.states g.grown) (record { states = g.states; grown = [] })
+abbrev pub round : Program → FixpointState → FixpointState
+round p g = arrived (handed_on p g.states g.changed) (record { states = g.states; changed = [] })
 
-unfoldable pub rounds : ℕ → Program → Grown → Grown
+unfoldable pub rounds : ℕ → Program → FixpointState → FixpointState
 rounds zero p g = g
 rounds (suc n) p g = round p (rounds n p g)
 
@@ -102,8 +102,8 @@ abbrev pub nothing : Program → Certificate
 nothing p = record { idle = None; ready = None; at = λ pc. None; lines = length p.code }
 
 -- `open` begins
-abbrev pub begun : Program → Grown
-begun p = grow (place.At 0) (at_open (length p.pools) (length p.brigades)) (record { states = nothing p; grown = [] })
+abbrev pub begun : Program → FixpointState
+begun p = grow (place.At 0) (at_open (length p.pools) (length p.brigades)) (record { states = nothing p; changed = [] })
 
 -- so many rounds that none can follow in which a state grows: no state grows more than 511 times
 unfoldable pub enough : Program → ℕ

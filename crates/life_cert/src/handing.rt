@@ -4,7 +4,7 @@ ghost use Rattle.std.specs.Prelude.{◌≡◌, ◌<◌, ◌≤◌, ◌++◌, tru
 ghost use Rattle.life_cert.specs.Prelude.{seen, seen_some, seen_edges, seen_cert, state_at, arriving, left_place, returned, edges_arriving, handed_by_line, handed_by, handed_on, is_inside};
 ghost use Rattle.life_cert.specs.Prelude.{IsDeclared, IsFit, IsOf, seen_arrivals, seen_growth};
 
-use crate::growth::{Arrival, Growth, StatePlace};
+use crate::fixpoint::{Arrival, Fixpoint, StatePlace};
 use life_state::{State, Successors, after, at_end_of_request, at_main, at_return};
 use module_code::{Instr, Module};
 use std::alloc::{AllocError, Global};
@@ -114,16 +114,16 @@ fn hand_from_idle(
 
 fn hand_from(
     code: &Module,
-    growth: &Growth,
+    fixpoint: &Fixpoint,
     place: StatePlace,
     arrivals: &mut Vec<Arrival>,
 ) -> Result<(), AllocError>
-    requires growing { IsOf code.now (seen_growth growth.now) }
+    requires growing { IsOf code.now (seen_growth fixpoint.now) }
     requires inside { is_inside (length code.now.code) place ≡ true }
-    ensures handed { OnOk result (seen_arrivals arrivals.new.items ≡ seen_arrivals arrivals.old.items ++ handed_by code.now place (state_at (seen_cert growth.now.cert) place)) }
-    ensures fit { All (IsFit code.now) (handed_by code.now place (state_at (seen_cert growth.now.cert) place)) }
+    ensures handed { OnOk result (seen_arrivals arrivals.new.items ≡ seen_arrivals arrivals.old.items ++ handed_by code.now place (state_at (seen_cert fixpoint.now.cert) place)) }
+    ensures fit { All (IsFit code.now) (handed_by code.now place (state_at (seen_cert fixpoint.now.cert) place)) }
 {
-    match growth.state(place) {
+    match fixpoint.state(place) {
         None => Ok(()),
         Some(state) => match place {
             StatePlace::Idle => hand_from_idle(code, &state, arrivals),
@@ -137,15 +137,15 @@ fn hand_from(
 pub(crate) fn handed_on(
     alloc: Global,
     code: &Module,
-    growth: &Growth,
+    fixpoint: &Fixpoint,
 ) -> Result<Vec<Arrival>, AllocError>
-    requires { IsOf code.now (seen_growth growth.now) }
-    ensures handed { IfOk result (λ v. seen_arrivals v.items ≡ handed_on code.now (seen_cert growth.now.cert) growth.now.grown.items) }
-    ensures fit { OnOk result (All (IsFit code.now) (handed_on code.now (seen_cert growth.now.cert) growth.now.grown.items)) }
+    requires { IsOf code.now (seen_growth fixpoint.now) }
+    ensures handed { IfOk result (λ v. seen_arrivals v.items ≡ handed_on code.now (seen_cert fixpoint.now.cert) fixpoint.now.changed.items) }
+    ensures fit { OnOk result (All (IsFit code.now) (handed_on code.now (seen_cert fixpoint.now.cert) fixpoint.now.changed.items)) }
 {
     let mut arrivals = Vec::new(alloc);
-    for place in &growth.grown {
-        hand_from(code, growth, *place, &mut arrivals)?;
+    for place in &fixpoint.changed {
+        hand_from(code, fixpoint, *place, &mut arrivals)?;
     }
     Ok(arrivals)
 }

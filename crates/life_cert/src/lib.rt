@@ -3,7 +3,7 @@
 
 mod draft;
 mod due;
-mod growth;
+mod fixpoint;
 mod handing;
 pub mod laws;
 mod maker;
@@ -18,8 +18,12 @@ mod state_text;
 mod unread;
 mod upgrading;
 
-pub use growth::{Arrival, Growth, StatePlace};
-pub use maker::{grown, make, round_count};
+pub use byte_text::{TextWriter, WriteFault};
+pub use fixpoint::{Arrival, Fixpoint, StatePlace};
+pub use life_check::{Cert, Rule};
+pub use life_state::State;
+pub use maker::{least_fixpoint, make, round_count};
+pub use module_code::Module;
 pub use print::print_cert;
 pub use read::read_cert;
 pub use refusal::{CertCode, CertRefusal, MakeRefusal, UpgradeRefusal};

@@ -3,7 +3,7 @@
 ghost use Rattle.std.specs.Prelude.{◌≡◌, ◌∷◌, [], false, OnOk, IfOk};
 ghost use Rattle.life_cert.specs.Prelude.{IsModule, Accepts, Certificate, AreFormed, seen_cert, ChainNeverFaults, IsTyped, round, enough, made, IsOf, seen_growth, version_two, IsCertMade, IsRefused, IsBelow};
 
-use crate::growth::Growth;
+use crate::fixpoint::Fixpoint;
 use crate::handing::handed_on;
 use crate::refusal::MakeRefusal;
 use life_check::{Cert, CertVersion, check};
@@ -20,33 +20,33 @@ pub fn round_count(code: &Module) -> usize
     512 * (code.len() + 2)
 }
 
-fn round(alloc: Global, code: &Module, growth: &mut Growth) -> Result<(), AllocError>
-    requires { IsOf code.now (seen_growth growth.old) }
-    ensures round { OnOk result (seen_growth growth.new ≡ round code.now (seen_growth growth.old)) }
-    ensures growing { OnOk result (IsOf code.now (seen_growth growth.new)) }
+fn round(alloc: Global, code: &Module, fixpoint: &mut Fixpoint) -> Result<(), AllocError>
+    requires { IsOf code.now (seen_growth fixpoint.old) }
+    ensures round { OnOk result (seen_growth fixpoint.new ≡ round code.now (seen_growth fixpoint.old)) }
+    ensures growing { OnOk result (IsOf code.now (seen_growth fixpoint.new)) }
 {
-    let arrivals = handed_on(alloc, code, growth)?;
-    growth.grown.clear();
+    let arrivals = handed_on(alloc, code, fixpoint)?;
+    fixpoint.changed.clear();
     for arrival in &arrivals {
-        growth.arrive(arrival)?;
+        fixpoint.merge(arrival)?;
     }
     Ok(())
 }
 
 /// The states of a module after so many rounds that none grows any more, whether it is accepted with them or not. `AllocError`: they
 /// cannot be held.
-pub fn grown(alloc: Global, code: &Module) -> Result<Cert, AllocError>
+pub fn least_fixpoint(alloc: Global, code: &Module) -> Result<Cert, AllocError>
     ensures version { IfOk result (λ c. c.version ≡ version_two code.now) }
     ensures whole { IfOk result (λ c. c.slim ≡ false) }
     ensures made { IfOk result (λ c. seen_cert c ≡ made code.now) }
     ensures proper { IsModule code.now }
 {
-    let mut growth = Growth::new(alloc, code)?;
+    let mut fixpoint = Fixpoint::new(alloc, code)?;
     for _ in 0..round_count(code) {
-        if growth.grown.is_empty() {
+        if fixpoint.changed.is_empty() {
             break;
         }
-        round(alloc, code, &mut growth)?;
+        round(alloc, code, &mut fixpoint)?;
     }
     let Cert {
         version: _,
@@ -54,7 +54,7 @@ pub fn grown(alloc: Global, code: &Module) -> Result<Cert, AllocError>
         idle,
         ready,
         at,
-    } = growth.cert;
+    } = fixpoint.cert;
     Ok(Cert {
         version: CertVersion::two(code),
         slim: false,
@@ -78,7 +78,7 @@ pub fn make(alloc: Global, code: &Module) -> Result<Cert, MakeRefusal>
     ensures complete { IsRefused result → (other : Certificate) → AreFormed other → IsTyped code.now other → ⊥ }
     ensures safe { OnOk result (ChainNeverFaults (code.now ∷ [])) }
 {
-    let cert = grown(alloc, code)?;
+    let cert = least_fixpoint(alloc, code)?;
     check(code, &cert)?;
     Ok(cert)
 }

@@ -58,9 +58,10 @@ impl From<AllocError> for CertRefusal {
 }
 
 /// Why no certificate is made.
-#[derive(Clone, Copy)]
+#[derive(Clone, Copy, Debug, Error)]
 pub enum MakeRefusal {
     /// The instruction may have a fault.
+    #[error("instruction {pc}: {rule}")]
     At {
         /// The instruction.
         pc: usize,
@@ -68,6 +69,7 @@ pub enum MakeRefusal {
         rule: Rule,
     },
     /// There is no memory.
+    #[error("no memory")]
     NoMemory,
 }
 
@@ -91,11 +93,13 @@ impl From<CheckRefusal> for MakeRefusal {
 }
 
 /// Why a certificate is not carried over to version 2.
-#[derive(Clone, Copy)]
+#[derive(Clone, Copy, Debug, Error)]
 pub enum UpgradeRefusal {
     /// It is of version 2.
+    #[error("the certificate is of version 2")]
     Already,
     /// It is not accepted.
+    #[error("instruction {pc}: {rule}")]
     At {
         /// The instruction.
         pc: usize,

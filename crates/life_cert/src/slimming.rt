@@ -1,20 +1,20 @@
 //! Slim forms of certificates.
 
 ghost use Rattle.std.specs.Prelude.{◌≡◌, true, IfOk};
-ghost use Rattle.life_cert.specs.Prelude.{IsModule, seen_some, AreFormed, seen_cert, AreHeads, slim_form, Accepts};
+ghost use Rattle.life_cert.specs.Prelude.{IsModule, seen_some, AreFormed, seen_cert, AreLeaders, slim_form, Accepts};
 
-use life_check::{Cert, heads};
+use life_check::{Cert, leaders};
 use life_state::State;
 use module_code::Module;
 use std::alloc::{AllocError, Global};
 
 /// The state that the slim form gives before an instruction.
-fn kept(cert: &Cert, heads: &[bool; 1025], pc: usize, code: &Module) -> Option<State>
+fn kept(cert: &Cert, leaders: &[bool; 1025], pc: usize, code: &Module) -> Option<State>
     requires proper { IsModule code.now }
-    requires heads { AreHeads code.now heads.now }
+    requires leaders { AreLeaders code.now leaders.now }
     ensures { seen_some result ≡ (slim_form code.now cert.now).at pc }
 {
-    if cert.slim || (pc < 1025 && heads[pc]) {
+    if cert.slim || (pc < 1025 && leaders[pc]) {
         cert.state(pc)
     } else {
         None
@@ -30,10 +30,10 @@ pub fn slim(alloc: Global, code: &Module, cert: &Cert) -> Result<Cert, AllocErro
     ensures accepted { IfOk result (λ c. AreFormed (seen_cert cert.now) → Accepts code.now cert.now → Accepts code.now c) }
 {
     let _count = code.len();
-    let heads = heads(code);
+    let leaders = leaders(code);
     let mut at = Vec::new(alloc);
     for pc in 0..cert.at.len() {
-        at.push(kept(cert, &heads, pc, code))?;
+        at.push(kept(cert, &leaders, pc, code))?;
     }
     Ok(Cert {
         version: cert.version,

@@ -13,7 +13,7 @@ ghost use Rattle.life_cert.specs.Prelude.{told_pools, told_row, past_three, thre
 use crate::print_state::put_state;
 use crate::refusal::CertRefusal;
 use crate::unread::Unread;
-use byte_text::{begins, is_text};
+use byte_text::{TextWriter, begins, is_text};
 use life_state::{
     BrigadeState, Classes, Contents, CursorState, HomeSet, PoolSet, PoolState, State, at_open,
 };
@@ -378,9 +378,12 @@ fn is_state_text(alloc: Global, state: &State, text: &[u8]) -> Result<bool, Cert
     ensures whole { IfOk result (λ b. text.now ≡ state_text (seen state.now) → b ≡ true) }
     ensures err { IfErr result (λ e. e ≡ NoMemory) }
 {
-    let mut printed = Vec::new(alloc);
-    match put_state(&mut printed, state) {
-        Ok(()) => Ok(is_text(text, printed.as_slice())),
+    let mut out = TextWriter::new(Vec::new(alloc));
+    match put_state(&mut out, state) {
+        Ok(()) => {
+            let printed = out.into_writer();
+            Ok(is_text(text, printed.as_slice()))
+        }
         Err(_) => Err(CertRefusal::NoMemory),
     }
 }

@@ -18,7 +18,7 @@ use Rattle.run_model.specs.Buckets.{is_data_kind, is_eos_kind}
 use Rattle.run_model.specs.BrigadeLists.{bucket_named}
 use Rattle.run_model.specs.BucketSteps.{changed_at, ref_taken, items_at, aside_into, do_aside}
 use Rattle.run_model.specs.Cutting.{FitsKind, LivesAs, IsFree, IsOfPool, set_aside, set_aside_as}
-use Rattle.run_model.specs.Cursors.{Place, Within, AtLoose, at_cursor}
+use Rattle.run_model.specs.Cursors.{CursorPlace, Within, AtLoose, at_cursor}
 use Rattle.run_model.specs.Faults.{WPool, WHome, WCursor, OnBucket, or_else, fault_want, has_pool, has_pool_at, is_live_named, usable_fault}
 use Rattle.run_model.specs.declared.fault.FaultKind.TheVariants.{F5}
 use Rattle.run_model.specs.declared.bucket.PoolVar.TheVariants as poolvar
@@ -340,7 +340,7 @@ law_aside {lives} c q p choice r s ready = by_pool (pool_named r q) refl where
       → Fits (Covers p (pool_view (do_aside (at_cursor r c) (Some target) r)) lives) (after_aside c q k s) (do_aside (at_cursor r c) (Some target) r)
   by_known target named (In b t) is met home =
       let i : IsAtBucketOf r (r.call.cursors c) b t = subst (λ (k : CursorKnown). FitsCursor C r k (r.call.cursors c)) is (ready.fits.cursors c) in
-      subst (λ (at : Place). Fits (Covers p (pool_view (do_aside at (Some target) r)) lives) (after_aside c q (In b t) s) (do_aside at (Some target) r))
+      subst (λ (at : CursorPlace). Fits (Covers p (pool_view (do_aside at (Some target) r)) lives) (after_aside c q (In b t) s) (do_aside at (Some target) r))
       (sym (cursor_in r (r.call.cursors c) b t ready.sound.names i))
       (subst (λ (few : Bool). Fits (Covers p (pool_view (aside_into (Within b i.bucket) target r)) lives) (cond few (set_brigade_known b (with_homes (both_homes (home_in q)) (s.brigades b)) s) s)
       (aside_into (Within b i.bucket) target r))
@@ -349,7 +349,7 @@ law_aside {lives} c q p choice r s ready = by_pool (pool_named r q) refl where
       (clearable p r q target ready.declared named) ready.fits b i.usable (unless_some (s.brigades b).homes.dead F5 home)))
   by_known target named (Loose t h) is met home =
       let i : IsAtLoose C r (r.call.cursors c) t h = subst (λ (k : CursorKnown). FitsCursor C r k (r.call.cursors c)) is (ready.fits.cursors c) in
-      subst (λ (at : Place). Fits (Covers p (pool_view (do_aside at (Some target) r)) lives) (after_aside c q (Loose t h) s) (do_aside at (Some target) r))
+      subst (λ (at : CursorPlace). Fits (Covers p (pool_view (do_aside at (Some target) r)) lives) (after_aside c q (Loose t h) s) (do_aside at (Some target) r))
       (sym (cursor_loose C r (r.call.cursors c) t h ready.sound.names i))
       (loose_fits p r s c q target i.bucket ready.may.proper ready.sound ready.declared ready.outside named (named_lives r q target there named)
       (clearable p r q target ready.declared named) ready.fits t h i.at i.there i.classed i.covered (unless_some h.dead F5 home))

@@ -18,7 +18,7 @@ use Rattle.life_state.proofs.FormRules.{rules_keep_form}
 use Rattle.life_state.proofs.OrderLaws.{leq_same, leq_trans}
 use Rattle.life_state.proofs.Tests.{split2, split3, and2, and3, all_at}
 use Rattle.life_check.specs.Certificates.{Certificate, AreFormed}
-use Rattle.life_check.specs.Slim.{is_head, next_of, handed_next, full_at, completion, slim_of, EndsWithLines}
+use Rattle.life_check.specs.Slim.{is_leader, next_of, handed_next, full_at, completion, slim_of, EndsWithLines}
 use Rattle.life_check.specs.Typed.{is_below, declares, has_in, fits_between, fits_line, fits_lines, has_shape}
 use Rattle.life_check.proofs.EdgeLaws.{goes_on_next, rule_edges}
 use Rattle.life_check.proofs.Sides.{same_side, next_side}
@@ -43,16 +43,16 @@ below_trans s t (Some u) p q = leq_trans s t u p q
 
 -- Where states are given, and where they are handed on.
 
-pub head_full : (p : Program) (c : Certificate) (pc : ℕ) → is_head p pc ≡ true → full_at p c pc ≡ c.at pc
+pub head_full : (p : Program) (c : Certificate) (pc : ℕ) → is_leader p pc ≡ true → full_at p c pc ≡ c.at pc
 unfolding full_at
 head_full p c zero h = refl
 head_full p c (suc n) h = ap (λ (b : Bool). if b then c.at (suc n) else handed_next p (slice_get p.code n) (full_at p c n)) h
 
-pub next_full : (p : Program) (c : Certificate) (n : ℕ) → is_head p (suc n) ≡ false → full_at p c (suc n) ≡ handed_next p (slice_get p.code n) (full_at p c n)
+pub next_full : (p : Program) (c : Certificate) (n : ℕ) → is_leader p (suc n) ≡ false → full_at p c (suc n) ≡ handed_next p (slice_get p.code n) (full_at p c n)
 unfolding full_at
 next_full p c n h = ap (λ (b : Bool). if b then c.at (suc n) else handed_next p (slice_get p.code n) (full_at p c n)) h
 
-pub head_kept : (p : Program) (c : Certificate) (pc : ℕ) → is_head p pc ≡ true → (slim_of p c).at pc ≡ c.at pc
+pub head_kept : (p : Program) (c : Certificate) (pc : ℕ) → is_leader p pc ≡ true → (slim_of p c).at pc ≡ c.at pc
 head_kept p c pc h = ap (λ (b : Bool). if b then c.at pc else None) h
 
 -- A line that stands where it may.
@@ -132,7 +132,7 @@ module _ (p : Program) (c : Certificate) (m : IsModule p) (formed : AreFormed c)
   unfolding full_at
   full_formed zero = given 0
   full_formed (suc n) =
-      elim (is_head p (suc n)) as (λ b. IfSome (if b then c.at (suc n) else handed_next p (slice_get p.code n) (full_at p c n)) (IsFormedIn p (nat_le p.main (suc n))))
+      elim (is_leader p (suc n)) as (λ b. IfSome (if b then c.at (suc n) else handed_next p (slice_get p.code n) (full_at p c n)) (IsFormedIn p (nat_le p.main (suc n))))
       [ true ↦ given (suc n) | false ↦ handed n (slice_get p.code n) (full_at p c n) refl (full_formed n) ]
 
   pub full_fits : (pc : ℕ) → pc < length p.code → fits_line p pc (full_at p c pc) ≡ true

@@ -11,7 +11,7 @@ use Rattle.run_model.specs.declared.effect.Condition.TheVariants as condition
 use Rattle.run_model.specs.declared.fault.FaultKind.{FaultKind}
 use Rattle.run_model.specs.BrigadeLists.{SplitRefusal, split_refusal, bucket_split}
 use Rattle.run_model.specs.BucketSteps.{items_at, set_items, bucket_read, read_given, read_within, has_rest, names_if, names_given, do_read, is_unread, is_unsplit, split_there}
-use Rattle.run_model.specs.Cursors.{Place, Within, at_cursor}
+use Rattle.run_model.specs.Cursors.{CursorPlace, Within, at_cursor}
 use Rattle.run_model.specs.Faults.{InBrigade, or_else}
 use Rattle.run_model.specs.Sound.{Sound, SoundNames}
 use Rattle.run_model.specs.State.{Configuration, set_brigade, set_cursor, pool_view}
@@ -66,7 +66,7 @@ ReadLands lives p r s c unread left = Lands lives p (on_condition (condition.Rea
 each_kind : {r : Configuration} {v : Cursor} {t : Classes} → Sound r → (b : ℕ) → (at : IsAtBucketOf r v b t) → FitsKind at.bucket.bucket
 each_kind {r} sound b at = of_named (λ x. FitsKind x.bucket) at.bucket.name at.bucket (items_at r b) at.there (sound.buckets.brigades b)
 
-abbrev SplitLands : (Home → Type 0) → Program → Configuration → State → ℕ → Place → Bool → Type 0
+abbrev SplitLands : (Home → Type 0) → Program → Configuration → State → ℕ → CursorPlace → Bool → Type 0
 SplitLands lives p r s n g refused = Lands lives p (both_with s) s (jumps_if refused) (cond refused r (split_there n g r))
 
 module _ {lives : Home → Type 0} where

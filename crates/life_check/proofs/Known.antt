@@ -4,7 +4,7 @@ use Rattle.run_model.specs.declared.bucket.Cursor.{Cursor}
 use Rattle.run_model.specs.declared.bucket.Home.{Home}
 use Rattle.run_model.specs.declared.bucket.NamedBucket.{NamedBucket}
 use Rattle.run_model.specs.BucketSteps.{items_at}
-use Rattle.run_model.specs.Cursors.{Place, bucket_at, place_of_cursor}
+use Rattle.run_model.specs.Cursors.{CursorPlace, bucket_at, place_of_cursor}
 use Rattle.run_model.specs.Sound.{SoundNames}
 use Rattle.run_model.specs.State.{Configuration}
 use Rattle.life_state.specs.declared.parts.Classes.{Classes}
@@ -23,8 +23,8 @@ module _ (C : Homes → Home → Type 0) (r : Configuration) (s : State) (v : Cu
   pub in_known : (b : ℕ) (t : Classes) → IsAtBucketOf r v b t → IsKnown C t (s.brigades b).homes (bucket_at (place_of_cursor r v))
   in_known b t i =
       let homes : Homes = (s.brigades b).homes in
-      subst (λ (at : Place). IsKnown C t homes (bucket_at at)) (sym (cursor_in r v b t names i))
+      subst (λ (at : CursorPlace). IsKnown C t homes (bucket_at at)) (sym (cursor_in r v b t names i))
       (i.classed, each_named (λ y. C homes y.bucket.home) i.bucket.name (items_at r b) i.bucket i.there (full_of C (s.brigades b) (r.instance.brigades b) i.usable (f.brigades b)).homes)
 
   pub loose_known : (t : Classes) (h : Homes) → IsAtLoose C r v t h → IsKnown C t h (bucket_at (place_of_cursor r v))
-  loose_known t h i = subst (λ (at : Place). IsKnown C t h (bucket_at at)) (sym (cursor_loose C r v t h names i)) (i.classed, i.covered)
+  loose_known t h i = subst (λ (at : CursorPlace). IsKnown C t h (bucket_at at)) (sym (cursor_loose C r v t h names i)) (i.classed, i.covered)

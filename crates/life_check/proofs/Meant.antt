@@ -19,7 +19,7 @@ use Rattle.life_check.specs.declared.refusal.Rule.TheVariants.{Shape, Request}
 use Rattle.life_check.specs.Certificates.{Certificate, IsBoundedSome, AllBounded, AreFormed}
 use Rattle.life_check.specs.Seen.{seen_line, seen_cert}
 use Rattle.life_check.specs.Versions.{names_shape}
-use Rattle.life_check.specs.Slim.{is_head, at_heads, next_of, handed_next, completion, meant, is_slim_shape, states_refusal, cert_refusal, Accepts, EndsWithLines}
+use Rattle.life_check.specs.Slim.{is_leader, at_leaders, next_of, handed_next, completion, meant, is_slim_shape, states_refusal, cert_refusal, Accepts, EndsWithLines}
 use Rattle.life_check.specs.Typed.{flows, leads_on, declares, has_in, fits_line, has_shape, refusal, unless, or_else, line_refusal, refusal_at, entry_refusal, first_below, requests, first_refusal}
 use Rattle.life_check.specs.Typed.{IsAnswer}
 use Rattle.life_check.proofs.Completed.{declared, head_full, next_full, each_fits, given, full_formed, completion_shaped, completion_formed}
@@ -44,15 +44,15 @@ meant_idle p c = by_slim p c (λ m. m.idle ≡ (seen_cert c).idle) refl refl
 pub meant_ready : (p : Program) (c : Cert) → (meant p c).ready ≡ (seen_cert c).ready
 meant_ready p c = by_slim p c (λ m. m.ready ≡ (seen_cert c).ready) refl refl
 
-pub meant_head : (p : Program) (c : Cert) (pc : ℕ) → is_head p pc ≡ true → (meant p c).at pc ≡ (seen_cert c).at pc
+pub meant_head : (p : Program) (c : Cert) (pc : ℕ) → is_leader p pc ≡ true → (meant p c).at pc ≡ (seen_cert c).at pc
 meant_head p c pc h = by_slim p c (λ m. m.at pc ≡ (seen_cert c).at pc) (head_full p (seen_cert c) pc h) refl
 
 -- what flows into a head is what flows into what is given there
-pub flows_meant : (p : Program) (c : Cert) (pc : ℕ) (from given : Option State) → from ≡ given → is_head p pc ≡ true
+pub flows_meant : (p : Program) (c : Cert) (pc : ℕ) (from given : Option State) → from ≡ given → is_leader p pc ≡ true
     → flows given ((seen_cert c).at pc) ≡ flows from ((meant p c).at pc)
 flows_meant p c pc from given same h = ap (λ o. flows o ((seen_cert c).at pc)) (sym same) ∙ ap (flows from) (sym (meant_head p c pc h))
 
-pub meant_handed : (p : Program) (c : Cert) (pc : ℕ) → c.slim ≡ true → is_head p (suc pc) ≡ false → (meant p c).at (suc pc) ≡ handed_next p (slice_get p.code pc) ((meant p c).at pc)
+pub meant_handed : (p : Program) (c : Cert) (pc : ℕ) → c.slim ≡ true → is_leader p (suc pc) ≡ false → (meant p c).at (suc pc) ≡ handed_next p (slice_get p.code pc) ((meant p c).at pc)
 meant_handed p c pc h other =
     subst (λ (m : Certificate). m.at (suc pc) ≡ handed_next p (slice_get p.code pc) (m.at pc)) (sym (slim_means p c h)) (next_full p (seen_cert c) pc other)
 
@@ -103,24 +103,24 @@ all_bounded d f = record { idle = bounded_some d.idle f.idle; ready = bounded_so
 
 -- Refusals.
 
-slim_shape : (p : Program) (c : Cert) → has_shape p (seen_cert c) ≡ true → (c.slim ≡ true → at_heads p (seen_cert c) ≡ true) → is_slim_shape p c ≡ true
-slim_shape p c shape heads = of c.slim (has_shape p (seen_cert c)) (at_heads p (seen_cert c)) shape heads
+slim_shape : (p : Program) (c : Cert) → has_shape p (seen_cert c) ≡ true → (c.slim ≡ true → at_leaders p (seen_cert c) ≡ true) → is_slim_shape p c ≡ true
+slim_shape p c shape leaders = of c.slim (has_shape p (seen_cert c)) (at_leaders p (seen_cert c)) shape leaders
   where
     of : (s x y : Bool) → x ≡ true → (s ≡ true → y ≡ true) → (not s || (x && y)) ≡ true
     of false x y e h = refl
     of true true y e h = h refl
     of true false y e h = cc
 
-pub refused_as_meant : (p : Program) (c : Cert) (r : Result (Unit {0}) CheckRefusal) → has_shape p (seen_cert c) ≡ true → (c.slim ≡ true → at_heads p (seen_cert c) ≡ true)
+pub refused_as_meant : (p : Program) (c : Cert) (r : Result (Unit {0}) CheckRefusal) → has_shape p (seen_cert c) ≡ true → (c.slim ≡ true → at_leaders p (seen_cert c) ≡ true)
     → IsAnswer (first_refusal p (meant p c)) r → IsAnswer (states_refusal p c) r
-refused_as_meant p c r shape heads h =
+refused_as_meant p c r shape leaders h =
     subst (λ (o : Option CheckRefusal). IsAnswer o r)
-    (sym (after_none (unless (is_slim_shape p c) 0 Shape) (first_refusal p (meant p c)) (unless_holds (is_slim_shape p c) 0 Shape (slim_shape p c shape heads)))) h
+    (sym (after_none (unless (is_slim_shape p c) 0 Shape) (first_refusal p (meant p c)) (unless_holds (is_slim_shape p c) 0 Shape (slim_shape p c shape leaders)))) h
 
 -- a state that is given where it may not stand
-pub refused_by_heads : (p : Program) (c : Cert) → c.slim ≡ true → at_heads p (seen_cert c) ≡ false → states_refusal p c ≡ Some (refusal 0 Shape)
+pub refused_by_heads : (p : Program) (c : Cert) → c.slim ≡ true → at_leaders p (seen_cert c) ≡ false → states_refusal p c ≡ Some (refusal 0 Shape)
 refused_by_heads p c s h =
-    ap (λ (b : Bool). or_else (unless b 0 Shape) (first_refusal p (meant p c))) (of c.slim (has_shape p (seen_cert c)) (at_heads p (seen_cert c)) s h)
+    ap (λ (b : Bool). or_else (unless b 0 Shape) (first_refusal p (meant p c))) (of c.slim (has_shape p (seen_cert c)) (at_leaders p (seen_cert c)) s h)
   where
     of : (s x y : Bool) → s ≡ true → y ≡ false → (not s || (x && y)) ≡ false
     of true true y e h = h
@@ -138,9 +138,9 @@ refused_by_shape p c h = by c.slim refl
     by : (s : Bool) → c.slim ≡ s → states_refusal p c ≡ Some (refusal 0 Shape)
     by true e =
         ap (λ (b : Bool). or_else (unless b 0 Shape) (first_refusal p (meant p c)))
-        (ap (λ (b : Bool). not b || (has_shape p (seen_cert c) && at_heads p (seen_cert c))) e ∙ of (has_shape p (seen_cert c)) (at_heads p (seen_cert c)) h)
+        (ap (λ (b : Bool). not b || (has_shape p (seen_cert c) && at_leaders p (seen_cert c))) e ∙ of (has_shape p (seen_cert c)) (at_leaders p (seen_cert c)) h)
     by false e =
-        ap (λ (b : Bool). or_else (unless (not b || (has_shape p (seen_cert c) && at_heads p (seen_cert c))) 0 Shape) (first_refusal p (if b then completion p (seen_cert c) else seen_cert c))) e
+        ap (λ (b : Bool). or_else (unless (not b || (has_shape p (seen_cert c) && at_leaders p (seen_cert c))) 0 Shape) (first_refusal p (if b then completion p (seen_cert c) else seen_cert c))) e
         ∙ ap (λ (b : Bool). or_else (unless b 0 Shape)
         (or_else (entry_refusal p (seen_cert c)) (or_else (first_below (length p.code) (refusal_at p (seen_cert c))) (unless (requests p (seen_cert c)) 0 Request)))) h
 
@@ -164,7 +164,7 @@ named_refusal p c h = ap (λ (b : Bool). or_else (unless b 0 Shape) (states_refu
 pub whole_refusal : (p : Program) (c : Cert) → names_shape p c.version ≡ true → c.slim ≡ false → cert_refusal p c ≡ first_refusal p (seen_cert c)
 whole_refusal p c named w =
     named_refusal p c named
-    ∙ ap (λ (b : Bool). or_else (unless (not b || (has_shape p (seen_cert c) && at_heads p (seen_cert c))) 0 Shape) (first_refusal p (if b then completion p (seen_cert c) else seen_cert c))) w
+    ∙ ap (λ (b : Bool). or_else (unless (not b || (has_shape p (seen_cert c) && at_leaders p (seen_cert c))) 0 Shape) (first_refusal p (if b then completion p (seen_cert c) else seen_cert c))) w
 
 apart : (r : CheckRefusal) → None ≡ Some r → ⊥
 apart r h = cc
@@ -197,20 +197,20 @@ none_stands p c pc e = ap (line_refusal p c pc (slice_get p.code pc)) e ∙ of (
     of (Some i) = refl
 
 -- the next state is given, or handed on
-pub next_given : (p : Program) (c : Cert) (pc : ℕ) (b : Bool) → b ≡ is_head p (pc + 1) → (not c.slim || b) ≡ true → (seen_cert c).at (pc + 1) ≡ (meant p c).at (pc + 1)
+pub next_given : (p : Program) (c : Cert) (pc : ℕ) (b : Bool) → b ≡ is_leader p (pc + 1) → (not c.slim || b) ≡ true → (seen_cert c).at (pc + 1) ≡ (meant p c).at (pc + 1)
 next_given p c pc b e h = by c.slim refl h
   where
     by : (s : Bool) → c.slim ≡ s → (not s || b) ≡ true → (seen_cert c).at (pc + 1) ≡ (meant p c).at (pc + 1)
     by false w h = ap (λ (m : Certificate). m.at (pc + 1)) (sym (whole_means p c w))
     by true w h = sym (meant_head p c (pc + 1) (sym e ∙ h))
 
-pub next_handed : (p : Program) (c : Cert) (pc : ℕ) (b : Bool) → b ≡ is_head p (pc + 1) → (not c.slim || b) ≡ false → handed_next p (slice_get p.code pc) ((meant p c).at pc) ≡ (meant p c).at (pc + 1)
+pub next_handed : (p : Program) (c : Cert) (pc : ℕ) (b : Bool) → b ≡ is_leader p (pc + 1) → (not c.slim || b) ≡ false → handed_next p (slice_get p.code pc) ((meant p c).at pc) ≡ (meant p c).at (pc + 1)
 next_handed p c pc b e h = by c.slim refl h
   where
     by : (s : Bool) → c.slim ≡ s → (not s || b) ≡ false → handed_next p (slice_get p.code pc) ((meant p c).at pc) ≡ (meant p c).at (pc + 1)
     by false w h = cc
     by true w h =
-        let other : is_head p (suc pc) ≡ false = subst (λ (n : ℕ). is_head p n ≡ false) (add-one pc) (sym e ∙ h) in
+        let other : is_leader p (suc pc) ≡ false = subst (λ (n : ℕ). is_leader p n ≡ false) (add-one pc) (sym e ∙ h) in
         sym (ap (meant p c).at (add-one pc) ∙ meant_handed p c pc w other)
 
 pub leads_is : (m : Certificate) (pc : ℕ) (i : Instr) (e : Edges) (x y : Bool) (n j : Option State) → x ≡ flows e.next n → y ≡ flows e.jump j → n ≡ m.at (pc + 1) → j ≡ m.at (unwrap_or (target i) 0)

@@ -13,7 +13,7 @@ use Rattle.run_model.specs.declared.bucket.NamedBucket.{NamedBucket}
 use Rattle.run_model.specs.Buckets.{is_data_kind, is_eos_kind, is_data, is_eos, has_data, has_eos}
 use Rattle.run_model.specs.BrigadeLists.{buckets_before, buckets_from, bucket_named, first_place, next_place, taken_out}
 use Rattle.run_model.specs.BucketSteps.{items_at, end_called, cursor_at, do_next}
-use Rattle.run_model.specs.Cursors.{Place, at_cursor}
+use Rattle.run_model.specs.Cursors.{CursorPlace, at_cursor}
 use Rattle.run_model.specs.Faults.{InBrigade, usable_fault}
 use Rattle.run_model.specs.Sound.{SoundNames, brigade_name, count_named}
 use Rattle.run_model.specs.State.{Configuration, pool_view, set_cursor}
@@ -171,7 +171,7 @@ law_next {lives = lives} d c p choice r s ready = by_known (s.cursors c) refl (f
       let C : Homes → Home → Type 0 = Covers p (pool_view r) lives in
       let i : IsAtBucketOf r (r.call.cursors c) b t = subst (λ (k : CursorKnown). FitsCursor C r k (r.call.cursors c)) is (ready.fits.cursors c) in
       let place : Option ℕ = next_place i.bucket.name (items_at r b) in
-      subst (λ (at : Place). Fits (Covers p (pool_view (do_next d at r)) lives) (after_next d c (In b t) s) (do_next d at r)) (sym (cursor_in r (r.call.cursors c) b t ready.sound.names i))
+      subst (λ (at : CursorPlace). Fits (Covers p (pool_view (do_next d at r)) lives) (after_next d c (In b t) s) (do_next d at r)) (sym (cursor_in r (r.call.cursors c) b t ready.sound.names i))
       (placed_fits C r s ready.sound.names ready.fits d b place (λ k. k == c) i.usable (λ n at. next_there i.bucket.name n (items_at r b) at)
       (λ k differ set same n at too. next_away r b c k n t ready.sound.names i same at too))
   by_known k is met = absurd (cc)

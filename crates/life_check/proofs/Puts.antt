@@ -8,7 +8,7 @@ use Rattle.run_model.specs.declared.bucket.NamedBucket.{NamedBucket}
 use Rattle.run_model.specs.Indexed.{upd}
 use Rattle.run_model.specs.BrigadeLists.{bucket_named, taken_out, put_head, put_tail, put_before}
 use Rattle.run_model.specs.BucketSteps.{items_at, put_into, do_before}
-use Rattle.run_model.specs.Cursors.{Place, AtLoose, at_cursor}
+use Rattle.run_model.specs.Cursors.{CursorPlace, AtLoose, at_cursor}
 use Rattle.run_model.specs.Effects.{with_items}
 use Rattle.run_model.specs.Faults.{InBrigade, OnLoose, usable_fault}
 use Rattle.run_model.specs.Sound.{SoundNames, count_named}
@@ -108,7 +108,7 @@ module _ (p : Program) (lives : Home → Type 0) (r : Configuration) (s : State)
   unfolding set_brigade set_loose
   end_fits content insert b c usable ins (Loose t h) is met =
       let i : IsAtLoose (Covers p (pool_view r) lives) r (r.call.cursors c) t h = subst (λ (k : CursorKnown). FitsCursor (Covers p (pool_view r) lives) r k (r.call.cursors c)) is (f.cursors c) in
-      subst (λ (at : Place). Fits (Covers p (pool_view (put_into insert b at r)) lives) (put_known content b c (Loose t h) s) (put_into insert b at r))
+      subst (λ (at : CursorPlace). Fits (Covers p (pool_view (put_into insert b at r)) lives) (put_known content b c (Loose t h) s) (put_into insert b at r))
       (sym (cursor_loose (Covers p (pool_view r) lives) r (r.call.cursors c) t h names i))
       (put_fits p lives r s names f content insert c b t h i usable (ins (λ y. Covers p (pool_view r) lives (both_homes (s.brigades b).homes h) y.bucket.home) t i.bucket (items_at r b)))
   end_fits content insert b c usable ins k is met = absurd (cc)
@@ -119,9 +119,9 @@ module _ (p : Program) (lives : Home → Type 0) (r : Configuration) (s : State)
   unfolding set_brigade set_loose
   beside_fits c d b t j (Loose u h) is met =
       let i : IsAtLoose (Covers p (pool_view r) lives) r (r.call.cursors c) u h = subst (λ (k : CursorKnown). FitsCursor (Covers p (pool_view r) lives) r k (r.call.cursors c)) is (f.cursors c) in
-      subst (λ (at : Place). Fits (Covers p (pool_view (do_before (at_cursor r c) at r)) lives) (put_known before_content b c (Loose u h) s) (do_before (at_cursor r c) at r))
+      subst (λ (at : CursorPlace). Fits (Covers p (pool_view (do_before (at_cursor r c) at r)) lives) (put_known before_content b c (Loose u h) s) (do_before (at_cursor r c) at r))
       (sym (cursor_in r (r.call.cursors d) b t names j))
-      (subst (λ (at : Place). Fits (Covers p (pool_view (put_into (put_before j.bucket.name) b at r)) lives) (put_known before_content b c (Loose u h) s)
+      (subst (λ (at : CursorPlace). Fits (Covers p (pool_view (put_into (put_before j.bucket.name) b at r)) lives) (put_known before_content b c (Loose u h) s)
       (put_into (put_before j.bucket.name) b at r)) (sym (cursor_loose (Covers p (pool_view r) lives) r (r.call.cursors c) u h names i))
       (put_fits p lives r s names f before_content (put_before j.bucket.name) c b u h i j.usable
       (before_inserts (λ y. Covers p (pool_view r) lives (both_homes (s.brigades b).homes h) y.bucket.home) j.bucket.name u i.bucket (items_at r b))))

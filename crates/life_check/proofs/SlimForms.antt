@@ -8,13 +8,13 @@ use Rattle.life_check.specs.declared.cert.Cert.{Cert}
 use Rattle.life_check.specs.Certificates.{Certificate, AreFormed}
 use Rattle.life_check.specs.Seen.{seen_cert}
 use Rattle.life_check.specs.Versions.{names_shape}
-use Rattle.life_check.specs.Slim.{is_head, at_heads, completion, slim_of, slim_form, Accepts}
+use Rattle.life_check.specs.Slim.{is_leader, at_leaders, completion, slim_of, slim_form, Accepts}
 use Rattle.life_check.specs.Typed.{has_shape, IsTyped}
 use Rattle.life_check.proofs.Meant.{ends_with_lines, slim_means, whole_means}
 use Rattle.life_check.proofs.SlimTyped.{slim_is_typed, slim_shaped}
 
-slim_at_heads : (p : Program) (c : Certificate) → at_heads p (slim_of p c) ≡ true
-slim_at_heads p c = all_below_holds c.lines (λ pc. is_head p pc || not (is_some ((slim_of p c).at pc))) (λ pc low. of (is_head p pc) (c.at pc))
+slim_at_heads : (p : Program) (c : Certificate) → at_leaders p (slim_of p c) ≡ true
+slim_at_heads p c = all_below_holds c.lines (λ pc. is_leader p pc || not (is_some ((slim_of p c).at pc))) (λ pc low. of (is_leader p pc) (c.at pc))
   where
     of : (b : Bool) (o : Option State) → (b || not (is_some (if b then o else None))) ≡ true
     of true o = refl
@@ -24,7 +24,7 @@ pub slim_accepts : (p : Program) (c d : Cert) → IsModule p → AreFormed (seen
 slim_accepts p c d m formed version slim is a = by c.slim refl
   where
     shape : Bool → Certificate → Bool
-    shape b x = not b || (has_shape p x && at_heads p x)
+    shape b x = not b || (has_shape p x && at_leaders p x)
 
     form_of : Bool → Certificate
     form_of b = if b then seen_cert c else slim_of p (seen_cert c)
@@ -43,6 +43,6 @@ slim_accepts p c d m formed version slim is a = by c.slim refl
         record {
           named = ap (names_shape p) version ∙ a.named;
           given = ap₂ shape slim same
-              ∙ and2 (has_shape p (slim_of p (seen_cert c))) (at_heads p (slim_of p (seen_cert c))) (slim_shaped p (seen_cert c) m formed (ends_with_lines c) whole) (slim_at_heads p (seen_cert c));
+              ∙ and2 (has_shape p (slim_of p (seen_cert c))) (at_leaders p (slim_of p (seen_cert c))) (slim_shaped p (seen_cert c) m formed (ends_with_lines c) whole) (slim_at_heads p (seen_cert c));
           typed = subst (IsTyped p) (sym (slim_means p d slim ∙ ap (completion p) same)) (slim_is_typed p (seen_cert c) m formed (ends_with_lines c) whole);
         }

@@ -16,7 +16,7 @@ use Rattle.life_state.proofs.Below.{all_below_holds}
 use Rattle.life_state.proofs.Tests.{split2, split3, and2, and3}
 use Rattle.life_state.proofs.WithinRules.{rules_are_monotone, entries_are_monotone}
 use Rattle.life_check.specs.Certificates.{Certificate, AreFormed}
-use Rattle.life_check.specs.Slim.{is_head, next_of, handed_next, full_at, completion, slim_of, EndsWithLines, SlimIsTyped}
+use Rattle.life_check.specs.Slim.{is_leader, next_of, handed_next, full_at, completion, slim_of, EndsWithLines, SlimIsTyped}
 use Rattle.life_check.specs.Typed.{is_below, flows, main_from, fits_between, fits_line, fits_lines, has_shape, exits, left_by, IsLed, IsTyped}
 use Rattle.life_check.proofs.Completed.{below_itself, below_trans, head_full, next_full, head_kept, only_formed, each_fits, full_formed, completion_shaped}
 use Rattle.life_check.proofs.Targets.{target_head, first_head, head_at_init, head_at_main}
@@ -38,10 +38,10 @@ module _ (p : Program) (c : Certificate) (m : IsModule p) (formed : AreFormed c)
   fits = each_fits p c ends typed.shape
 
   slim_fits : (pc : ℕ) → fits_line p pc (slim.at pc) ≡ true
-  slim_fits pc = elim (is_head p pc) as (λ b. fits_line p pc (if b then c.at pc else None) ≡ true) [ true ↦ fits pc | false ↦ refl ]
+  slim_fits pc = elim (is_leader p pc) as (λ b. fits_line p pc (if b then c.at pc else None) ≡ true) [ true ↦ fits pc | false ↦ refl ]
 
   slim_formed : AreFormed slim
-  slim_formed = record { idle = formed.idle; ready = formed.ready; at = λ pc. elim (is_head p pc) as (λ b. IfSome (if b then c.at pc else None) IsFormed) [ true ↦ formed.at pc | false ↦ tt ] }
+  slim_formed = record { idle = formed.idle; ready = formed.ready; at = λ pc. elim (is_leader p pc) as (λ b. IfSome (if b then c.at pc else None) IsFormed) [ true ↦ formed.at pc | false ↦ tt ] }
 
   pub slim_shaped : has_shape p slim ≡ true
   slim_shaped =
@@ -51,7 +51,7 @@ module _ (p : Program) (c : Certificate) (m : IsModule p) (formed : AreFormed c)
   formed_there : (pc : ℕ) → IfSome (full_at p slim pc) (IsFormedIn p (nat_le p.main pc))
   formed_there = full_formed p slim m slim_formed slim_fits
 
-  at_head : (pc : ℕ) → is_head p pc ≡ true → full_at p slim pc ≡ c.at pc
+  at_head : (pc : ℕ) → is_leader p pc ≡ true → full_at p slim pc ≡ c.at pc
   at_head pc h = head_full p slim pc h ∙ head_kept p c pc h
 
   -- a smaller state before an instruction
@@ -89,9 +89,9 @@ module _ (p : Program) (c : Certificate) (m : IsModule p) (formed : AreFormed c)
     where
       itself : (o : Option State) → full_at p slim 0 ≡ o → IfSome (full_at p slim 0) (IsFormedIn p (nat_le p.main 0)) → flows o o ≡ true
       itself o e h = flows_itself p (nat_le p.main 0) o (subst (λ (x : Option State). IfSome x (IsFormedIn p (nat_le p.main 0))) e h)
-  over (suc n) = by (is_head p (suc n)) refl (over n)
+  over (suc n) = by (is_leader p (suc n)) refl (over n)
     where
-      by : (b : Bool) → is_head p (suc n) ≡ b → flows (full_at p slim n) (c.at n) ≡ true → flows (full_at p slim (suc n)) (c.at (suc n)) ≡ true
+      by : (b : Bool) → is_leader p (suc n) ≡ b → flows (full_at p slim n) (c.at n) ≡ true → flows (full_at p slim (suc n)) (c.at (suc n)) ≡ true
       by true h below =
           let e = at_head (suc n) h in
           ap (λ (o : Option State). flows o (c.at (suc n))) e
@@ -107,7 +107,7 @@ module _ (p : Program) (c : Certificate) (m : IsModule p) (formed : AreFormed c)
   returns_under pc _ s u f g le h = refl
 
   next_there : (pc : ℕ) (i : Instr) (s : State) (e : Edges) → slice_get p.code pc ≡ Some i → full_at p slim pc ≡ Some s → rule p i s ≡ Ok e → flows e.next (c.at (suc pc)) ≡ true
-      → (b : Bool) → is_head p (suc pc) ≡ b → flows e.next (full_at p slim (suc pc)) ≡ true
+      → (b : Bool) → is_leader p (suc pc) ≡ b → flows e.next (full_at p slim (suc pc)) ≡ true
   next_there pc i s e here line is under true h = ap (flows e.next) (at_head (suc pc) h) ∙ under
   next_there pc i s e here line is under false h =
       let same : full_at p slim (suc pc) ≡ e.next
@@ -126,7 +126,7 @@ module _ (p : Program) (c : Certificate) (m : IsModule p) (formed : AreFormed c)
         safe = d.safe;
         leads = and2 (flows d.edges.next (full_at p slim (pc + 1))) (flows d.edges.jump (full_at p slim at))
             (subst (λ (n : ℕ). flows d.edges.next (full_at p slim n) ≡ true) (sym (add-one pc))
-            (next_there pc i s d.edges here line d.safe (next_under pc i s u here e f le) (is_head p (suc pc)) refl))
+            (next_there pc i s d.edges here line d.safe (next_under pc i s u here e f le) (is_leader p (suc pc)) refl))
             (ap (flows d.edges.jump) (at_head at (target_head p pc i here (slice_get_within p.code pc i here))) ∙ jump_under pc i s u here e f le);
         exits = returns_under pc i s u f (formed_u pc i s u here e f le) le of_u.exits;
       }

@@ -12,7 +12,7 @@ use Rattle.run_model.specs.declared.fault.FaultKind.TheVariants.{F9}
 use Rattle.run_model.specs.Indexed.{upd}
 use Rattle.run_model.specs.BrigadeLists.{bucket_named, buckets_from, first_bucket, stays, moves}
 use Rattle.run_model.specs.BucketSteps.{items_at, set_items, do_bsplit}
-use Rattle.run_model.specs.Cursors.{Place, at_cursor}
+use Rattle.run_model.specs.Cursors.{CursorPlace, at_cursor}
 use Rattle.run_model.specs.Effects.{with_items}
 use Rattle.run_model.specs.Faults.{InThis, within_fault, end_fault, cursor_fault, usable_fault}
 use Rattle.run_model.specs.Sound.{SoundNames, brigade_name}
@@ -215,7 +215,7 @@ module _ (p : Program) (lives : Home → Type 0) (r : Configuration) (s : State)
   abbrev C : Homes → Home → Type 0
   C = Covers p (pool_view r) lives
 
-  abbrev IsPlaceSplit : Place → Type 0
+  abbrev IsPlaceSplit : CursorPlace → Type 0
   IsPlaceSplit at = Fits (Covers p (pool_view (do_bsplit b at a r)) lives) (after_bsplit b c a s) (do_bsplit b at a r)
 
   old_full : IsFull C (s.brigades b) (items_at r b)

@@ -9,7 +9,7 @@ use Rattle.run_model.specs.declared.bucket.Cursor.TheVariants as cursor
 use Rattle.run_model.specs.Indexed.{upd}
 use Rattle.run_model.specs.BrigadeLists.{bucket_named}
 use Rattle.run_model.specs.BucketSteps.{items_at}
-use Rattle.run_model.specs.Cursors.{Place, Nowhere, AtLoose, Within, AtEndOf, place_of_cursor}
+use Rattle.run_model.specs.Cursors.{CursorPlace, Nowhere, AtLoose, Within, AtEndOf, place_of_cursor}
 use Rattle.model_laws.specs.CursorLaws.{LooseOnce, WithinOnce, BucketOnce}
 use Rattle.run_model.specs.Faults.{usable_fault}
 use Rattle.run_model.specs.Sound.{SoundNames, brigade_name, count_named, count}
@@ -70,7 +70,7 @@ within_at r n b x s is = of_place (place_of_cursor r (cursor.At n)) (cursors_sta
   same : (k : ℕ) → (b ≢ k → count_named n (items_at r b) ≡ 0) → k ≡ b
   same k others = elim (cases_eq b k) [ inl e ↦ sym e | inr ne ↦ absurd (omega (arith, others ne, one)) ]
 
-  of_place : (at : Place) → BucketOnce r n at → at ≡ Within b x
+  of_place : (at : CursorPlace) → BucketOnce r n at → at ≡ Within b x
   of_place Nowhere none = absurd (omega (arith, none, in_brigade b n r s, one))
   of_place (AtLoose y) once = absurd (omega (arith, once.brigades b, one))
   of_place (Within k y) once =
@@ -83,7 +83,7 @@ loose_at r n x s is = of_place (place_of_cursor r (cursor.At n)) (cursors_stand_
   one : 1 ≤ count_named n r.call.loose
   one = there n x r.call.loose is
 
-  of_place : (at : Place) → BucketOnce r n at → at ≡ AtLoose x
+  of_place : (at : CursorPlace) → BucketOnce r n at → at ≡ AtLoose x
   of_place Nowhere none = absurd (omega (arith, none, one))
   of_place (AtLoose y) once = ap AtLoose (some_is y x (sym once.there ∙ is))
   of_place (Within k y) once = absurd (omega (arith, once.loose, one))

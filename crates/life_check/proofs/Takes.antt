@@ -5,7 +5,7 @@ use Rattle.run_model.specs.declared.bucket.Home.{Home}
 use Rattle.run_model.specs.Indexed.{upd}
 use Rattle.run_model.specs.BrigadeLists.{taken_out, put_tail}
 use Rattle.run_model.specs.BucketSteps.{items_at, do_unlink, do_delete}
-use Rattle.run_model.specs.Cursors.{Place, Within, AtLoose, at_cursor}
+use Rattle.run_model.specs.Cursors.{CursorPlace, Within, AtLoose, at_cursor}
 use Rattle.run_model.specs.Effects.{with_items}
 use Rattle.run_model.specs.Faults.{InBrigade, OnBucket, usable_fault}
 use Rattle.run_model.specs.Sound.{SoundNames}
@@ -88,7 +88,7 @@ law_unlink {lives = lives} c p choice r s ready = by_known (s.cursors c) refl (f
       → Fits (Covers p (pool_view (do_unlink (at_cursor r c) r)) lives) (move_bucket c (Loose (classes_of k) (homes_at s k)) s) (do_unlink (at_cursor r c) r)
   by_known (In b t) is met =
       let i : IsAtBucketOf r (r.call.cursors c) b t = subst (λ (k : CursorKnown). FitsCursor (Covers p (pool_view r) lives) r k (r.call.cursors c)) is (ready.fits.cursors c) in
-      subst (λ (at : Place). Fits (Covers p (pool_view (do_unlink at r)) lives) (move_bucket c (Loose t (s.brigades b).homes) s) (do_unlink at r))
+      subst (λ (at : CursorPlace). Fits (Covers p (pool_view (do_unlink at r)) lives) (move_bucket c (Loose t (s.brigades b).homes) s) (do_unlink at r))
       (sym (cursor_in r (r.call.cursors c) b t ready.sound.names i))
       (unlinked (Covers p (pool_view r) lives) r s ready.sound.names ready.fits c b t i)
   by_known k is met = absurd (cc)
@@ -99,12 +99,12 @@ law_bdelete {lives = lives} c p choice r s ready = by_known (s.cursors c) refl (
   by_known : (k : CursorKnown) → s.cursors c ≡ k → cursor_need OnBucket k ≡ None → Fits (Covers p (pool_view (do_delete (at_cursor r c) r)) lives) (move_bucket c Unset s) (do_delete (at_cursor r c) r)
   by_known (In b t) is met =
       let i : IsAtBucketOf r (r.call.cursors c) b t = subst (λ (k : CursorKnown). FitsCursor (Covers p (pool_view r) lives) r k (r.call.cursors c)) is (ready.fits.cursors c) in
-      subst (λ (at : Place). Fits (Covers p (pool_view (do_delete at r)) lives) (move_bucket c Unset s) (do_delete at r)) (sym (cursor_in r (r.call.cursors c) b t ready.sound.names i))
+      subst (λ (at : CursorPlace). Fits (Covers p (pool_view (do_delete at r)) lives) (move_bucket c Unset s) (do_delete at r)) (sym (cursor_in r (r.call.cursors c) b t ready.sound.names i))
       (deleted_in (Covers p (pool_view r) lives) r s ready.sound.names ready.fits c b t i)
   by_known (Loose t h) is met =
       let i : IsAtLoose (Covers p (pool_view r) lives) r (r.call.cursors c) t h =
       subst (λ (k : CursorKnown). FitsCursor (Covers p (pool_view r) lives) r k (r.call.cursors c)) is (ready.fits.cursors c) in
-      subst (λ (at : Place). Fits (Covers p (pool_view (do_delete at r)) lives) (move_bucket c Unset s) (do_delete at r))
+      subst (λ (at : CursorPlace). Fits (Covers p (pool_view (do_delete at r)) lives) (move_bucket c Unset s) (do_delete at r))
       (sym (cursor_loose (Covers p (pool_view r) lives) r (r.call.cursors c) t h ready.sound.names i))
       (deleted_loose (Covers p (pool_view r) lives) r s ready.sound.names ready.fits c t h i)
   by_known k is met = absurd (cc)

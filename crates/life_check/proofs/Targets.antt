@@ -7,7 +7,7 @@ use Rattle.module_code.specs.Program.{Program, IsModule, IsPlaced, target}
 use Rattle.run_model.specs.Indexed.{upd, any_below}
 use Rattle.life_state.proofs.Below.{some_below}
 use Rattle.life_state.proofs.Tests.{or_left, or_right, or_either}
-use Rattle.life_check.specs.Slim.{names, is_first, is_head}
+use Rattle.life_check.specs.Slim.{names, is_first, is_leader}
 
 -- the heads that the instructions below n make
 abbrev pub is_marked : Program → ℕ → ℕ → Bool
@@ -56,8 +56,8 @@ firsts_are p f g h d k none a b c =
     of false false false = refl
 
 -- what an instruction names is a head
-pub target_head : (p : Program) (pc : ℕ) (i : Instr) → slice_get p.code pc ≡ Some i → pc < length p.code → is_head p (unwrap_or (target i) 0) ≡ true
-unfolding is_head
+pub target_head : (p : Program) (pc : ℕ) (i : Instr) → slice_get p.code pc ≡ Some i → pc < length p.code → is_leader p (unwrap_or (target i) 0) ≡ true
+unfolding is_leader
 target_head p pc i here inside =
     let t = unwrap_or (target i) 0 in
     or_right (is_first p t) (any_below (length p.code) (λ k. names t (slice_get p.code k)))
@@ -71,14 +71,14 @@ target_inside p pc i h some = at (target i) h.jump
     at None h = some
     at (Some t) h = h
 
-pub first_head : (p : Program) (pc : ℕ) → is_first p pc ≡ true → is_head p pc ≡ true
-unfolding is_head
+pub first_head : (p : Program) (pc : ℕ) → is_first p pc ≡ true → is_leader p pc ≡ true
+unfolding is_leader
 first_head p pc h = or_left (is_first p pc) (any_below (length p.code) (λ k. names pc (slice_get p.code k))) h
 
-pub head_at_init : (p : Program) → is_head p p.init ≡ true
+pub head_at_init : (p : Program) → is_leader p p.init ≡ true
 head_at_init p = first_head p p.init (or_left (p.init == 0 || p.init == p.init) (p.init == p.main) (or_right (p.init == 0) (p.init == p.init) (eq-eqb p.init p.init refl)))
 
-pub head_at_main : (p : Program) → is_head p p.main ≡ true
+pub head_at_main : (p : Program) → is_leader p p.main ≡ true
 head_at_main p = first_head p p.main (or_right (p.main == 0 || p.main == p.init) (p.main == p.main) (eq-eqb p.main p.main refl))
 
 -- a head is an instruction
@@ -92,8 +92,8 @@ found_below (suc n) f h =
       | inr below ↦ (let k = found_below n f below in (k.0, (let low = k.1.0 in omega (arith, low), k.1.1)))
     ]
 
-pub head_inside : (p : Program) (pc : ℕ) → IsModule p → is_head p pc ≡ true → pc < length p.code
-unfolding is_head
+pub head_inside : (p : Program) (pc : ℕ) → IsModule p → is_leader p pc ≡ true → pc < length p.code
+unfolding is_leader
 head_inside p pc m h =
     elim (or_either (is_first p pc) (any_below (length p.code) (λ k. names pc (slice_get p.code k))) h) [
       | inl first ↦ firsts (or_either (pc == 0 || pc == p.init) (pc == p.main) first)

@@ -10,7 +10,7 @@ pub use Rattle.life_check.specs.ChainTheorem.{ChainNeverFaults, TypedChainNeverF
 pub use Rattle.life_check.specs.Examples.{BesideRows, FaultRows, IdentityAnswers}
 pub use Rattle.life_check.specs.Meaning.{Covers}
 pub use Rattle.life_check.specs.Seen.{seen_cert}
-pub use Rattle.life_check.specs.Slim.{Accepts, AreHeads, SlimIsTyped, at_heads, cert_refusal, handed_next, is_head, meant, states_refusal}
+pub use Rattle.life_check.specs.Slim.{Accepts, AreLeaders, SlimIsTyped, at_leaders, cert_refusal, handed_next, is_leader, meant, states_refusal}
 pub use Rattle.life_check.specs.Soundness.{GreaterFits, LivesByTest, MetIsFaultless, RequestEndLands, StepLands}
 pub use Rattle.life_check.specs.Typed.{IsAnswer, declares, entry_refusal, exits, first_below, first_refusal, fits_between, fits_line}
 pub use Rattle.life_check.specs.Typed.{fits_lines, flows, has_in, has_no_cursor, has_shape, inits, is_below, leads_on, left_by, main_from}

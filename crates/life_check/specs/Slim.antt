@@ -28,12 +28,12 @@ names pc (Some i) = pc == unwrap_or (target i) 0
 abbrev pub is_first : Program → ℕ → Bool
 is_first p pc = (pc == 0) || (pc == p.init) || (pc == p.main)
 
-unfoldable pub is_head : Program → ℕ → Bool
-is_head p pc = is_first p pc || any_below (length p.code) (λ k. names pc (slice_get p.code k))
+unfoldable pub is_leader : Program → ℕ → Bool
+is_leader p pc = is_first p pc || any_below (length p.code) (λ k. names pc (slice_get p.code k))
 
 -- a table of the heads
-abbrev pub AreHeads : Program → List Bool → Type 0
-AreHeads p marks = (pc : ℕ) → pc < 1025 → slice_index_or marks pc false ≡ is_head p pc
+abbrev pub AreLeaders : Program → List Bool → Type 0
+AreLeaders p marks = (pc : ℕ) → pc < 1025 → slice_index_or marks pc false ≡ is_leader p pc
 
 -- What is meant where no state is given.
 
@@ -50,7 +50,7 @@ handed_next p _ _ = None
 -- at a head the state that is given, elsewhere the one that is handed on
 unfoldable pub full_at : Program → Certificate → ℕ → Option State
 full_at p c zero = c.at 0
-full_at p c (suc n) = if is_head p (suc n) then c.at (suc n) else handed_next p (slice_get p.code n) (full_at p c n)
+full_at p c (suc n) = if is_leader p (suc n) then c.at (suc n) else handed_next p (slice_get p.code n) (full_at p c n)
 
 abbrev pub completion : Program → Certificate → Certificate
 completion p c = record { idle = c.idle; ready = c.ready; at = full_at p c; lines = length p.code }
@@ -62,12 +62,12 @@ meant p c = if c.slim then completion p (seen_cert c) else seen_cert c
 -- When a certificate is accepted.
 
 -- states are given at heads alone
-abbrev pub at_heads : Program → Certificate → Bool
-at_heads p c = all_below c.lines (λ pc. is_head p pc || not (is_some (c.at pc)))
+abbrev pub at_leaders : Program → Certificate → Bool
+at_leaders p c = all_below c.lines (λ pc. is_leader p pc || not (is_some (c.at pc)))
 
 -- the shape of what a slim certificate gives
 abbrev pub is_slim_shape : Program → Cert → Bool
-is_slim_shape p c = not c.slim || (has_shape p (seen_cert c) && at_heads p (seen_cert c))
+is_slim_shape p c = not c.slim || (has_shape p (seen_cert c) && at_leaders p (seen_cert c))
 
 -- the first refusal of its states: of what is given, and then of what is meant
 abbrev pub states_refusal : Program → Cert → Option CheckRefusal
@@ -85,7 +85,7 @@ pub record Accepts (p : Program) (c : Cert) : Type 0 where
 -- The slim form.
 
 abbrev pub slim_of : Program → Certificate → Certificate
-slim_of p c = record { idle = c.idle; ready = c.ready; at = λ pc. if is_head p pc then c.at pc else None; lines = c.lines }
+slim_of p c = record { idle = c.idle; ready = c.ready; at = λ pc. if is_leader p pc then c.at pc else None; lines = c.lines }
 
 -- a slim certificate is its own slim form
 abbrev pub slim_form : Program → Cert → Certificate

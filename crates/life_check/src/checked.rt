@@ -1,15 +1,15 @@
 //! The check of a certificate.
 
 ghost use Rattle.std.specs.Prelude.{◌≤◌, ◌≡◌, ◌↔◌, ◌∷◌, [], true, length, IsOk};
-ghost use Rattle.life_check.specs.Prelude.{IsModule, InstancesAreSafe, seen_cert, AllBounded, AreFormed, ChainNeverFaults, meant, cert_refusal, states_refusal, names_shape, Accepts, AreHeads, has_shape, entry_refusal};
+ghost use Rattle.life_check.specs.Prelude.{IsModule, InstancesAreSafe, seen_cert, AllBounded, AreFormed, ChainNeverFaults, meant, cert_refusal, states_refusal, names_shape, Accepts, AreLeaders, has_shape, entry_refusal};
 ghost use Rattle.life_check.specs.Prelude.{first_refusal, IsAnswer};
 
 use crate::cert::Cert;
 use crate::entries::{inits, opens, requests, serves};
 use crate::lines::{check_lines, unless};
 use crate::refusal::{CheckRefusal, Rule};
-use crate::shape::{at_heads, has_shape, names_shape};
-use crate::slim::heads;
+use crate::shape::{at_leaders, has_shape, names_shape};
+use crate::slim::leaders;
 use module_code::Module;
 
 fn check_entries(code: &Module, cert: &Cert) -> Result<(), CheckRefusal>
@@ -22,8 +22,8 @@ fn check_entries(code: &Module, cert: &Cert) -> Result<(), CheckRefusal>
 }
 
 /// The first refusal of what is meant, where the states that are given have the shape.
-fn check_meant(code: &Module, cert: &Cert, heads: &[bool; 1025]) -> Result<(), CheckRefusal>
-    requires heads { AreHeads code.now heads.now }
+fn check_meant(code: &Module, cert: &Cert, leaders: &[bool; 1025]) -> Result<(), CheckRefusal>
+    requires leaders { AreLeaders code.now leaders.now }
     requires shape { has_shape code.now (seen_cert cert.now) ≡ true }
     requires formed { AreFormed (seen_cert cert.now) }
     ensures first { IsAnswer (first_refusal code.now (meant code.now cert.now)) result }
@@ -31,7 +31,7 @@ fn check_meant(code: &Module, cert: &Cert, heads: &[bool; 1025]) -> Result<(), C
 {
     let _count = code.len();
     check_entries(code, cert)?;
-    check_lines(code, cert, heads)?;
+    check_lines(code, cert, leaders)?;
     unless(requests(code, cert), 0, Rule::Request)
 }
 
@@ -42,10 +42,14 @@ fn check_states(code: &Module, cert: &Cert) -> Result<(), CheckRefusal>
     ensures formed { IsOk result → AreFormed (meant code.now cert.now) }
     ensures proper { IsOk result → IsModule code.now }
 {
-    let heads = heads(code);
+    let leaders = leaders(code);
     unless(has_shape(code, cert), 0, Rule::Shape)?;
-    unless(!cert.slim || at_heads(code, cert, &heads), 0, Rule::Shape)?;
-    check_meant(code, cert, &heads)
+    unless(
+        !cert.slim || at_leaders(code, cert, &leaders),
+        0,
+        Rule::Shape,
+    )?;
+    check_meant(code, cert, &leaders)
 }
 
 pub(crate) fn check_all(code: &Module, cert: &Cert) -> Result<(), CheckRefusal>

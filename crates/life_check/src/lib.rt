@@ -19,5 +19,5 @@ pub use life_state::State;
 pub use module_code::Module;
 pub use refusal::{ChainRefusal, CheckRefusal, Rule};
 pub use run_model::FaultKind;
-pub use slim::heads;
+pub use slim::leaders;
 pub use version::CertVersion;

@@ -2,7 +2,7 @@
 
 ghost use Rattle.std.specs.Prelude.{◌≡◌, ◌<◌, ◌+◌, true, length, None, Some, IfOk, IfErr, OnOk, slice_get, unwrap_or, Ok};
 ghost use Rattle.module_code.specs.declared.instr.Instr as instr;
-ghost use Rattle.life_check.specs.Prelude.{IsModule, target, seen, seen_some, seen_edges, AreFormed, seen_cert, AreHeads, handed_next, meant, declares, has_shape, left_by, exits, leads_on, unless};
+ghost use Rattle.life_check.specs.Prelude.{IsModule, target, seen, seen_some, seen_edges, AreFormed, seen_cert, AreLeaders, handed_next, meant, declares, has_shape, left_by, exits, leads_on, unless};
 ghost use Rattle.life_check.specs.Prelude.{step_refusal, refusal_at, first_below, IsAnswer};
 
 use crate::cert::Cert;
@@ -35,18 +35,18 @@ fn exits(code: &Module, cert: &Cert, pc: usize, instr: Instr, state: &State) -> 
 fn next_meant(
     code: &Module,
     cert: &Cert,
-    heads: &[bool; 1025],
+    leaders: &[bool; 1025],
     pc: usize,
     handed: Option<State>,
 ) -> Option<State>
     requires proper { IsModule code.now }
     requires inside { pc < length code.now.code }
-    requires heads { AreHeads code.now heads.now }
+    requires leaders { AreLeaders code.now leaders.now }
     requires handed { seen_some handed ≡ handed_next code.now (slice_get code.now.code pc) ((meant code.now cert.now).at pc) }
     ensures { seen_some result ≡ (meant code.now cert.now).at (pc + 1) }
 {
     let next = cert.state(pc + 1);
-    let given = !cert.slim | heads[pc + 1];
+    let given = !cert.slim | leaders[pc + 1];
     if given { next } else { handed }
 }
 
@@ -90,13 +90,13 @@ fn check_edges(
 fn check_state(
     code: &Module,
     cert: &Cert,
-    heads: &[bool; 1025],
+    leaders: &[bool; 1025],
     pc: usize,
     state: &State,
 ) -> Result<Option<State>, CheckRefusal>
     requires proper { IsModule code.now }
     requires inside { pc < length code.now.code }
-    requires heads { AreHeads code.now heads.now }
+    requires leaders { AreLeaders code.now leaders.now }
     requires declared { declares code.now (seen state.now) ≡ true }
     requires stands { (meant code.now cert.now).at pc ≡ Some (seen state.now) }
     ensures next { IfOk result (λ next. seen_some next ≡ (meant code.now cert.now).at (pc + 1)) }
@@ -109,7 +109,7 @@ fn check_state(
             rule: Rule::May(kind),
         }),
         Ok(edges) => {
-            let next = next_meant(code, cert, heads, pc, edges.next);
+            let next = next_meant(code, cert, leaders, pc, edges.next);
             check_edges(code, cert, pc, state, &edges, next)?;
             Ok(next)
         }
@@ -119,13 +119,13 @@ fn check_state(
 fn check_line(
     code: &Module,
     cert: &Cert,
-    heads: &[bool; 1025],
+    leaders: &[bool; 1025],
     pc: usize,
     here: Option<State>,
 ) -> Result<Option<State>, CheckRefusal>
     requires proper { IsModule code.now }
     requires inside { pc < length code.now.code }
-    requires heads { AreHeads code.now heads.now }
+    requires leaders { AreLeaders code.now leaders.now }
     requires shape { has_shape code.now (seen_cert cert.now) ≡ true }
     requires formed { AreFormed (seen_cert cert.now) }
     requires here { seen_some here ≡ (meant code.now cert.now).at pc }
@@ -134,8 +134,8 @@ fn check_line(
     ensures refused { IfErr result (λ r. refusal_at code.now (meant code.now cert.now) pc ≡ Some r) }
 {
     match here {
-        None => Ok(next_meant(code, cert, heads, pc, None)),
-        Some(state) => check_state(code, cert, heads, pc, &state),
+        None => Ok(next_meant(code, cert, leaders, pc, None)),
+        Some(state) => check_state(code, cert, leaders, pc, &state),
     }
 }
 
@@ -143,9 +143,9 @@ fn check_line(
 pub(crate) fn check_lines(
     code: &Module,
     cert: &Cert,
-    heads: &[bool; 1025],
+    leaders: &[bool; 1025],
 ) -> Result<(), CheckRefusal>
-    requires heads { AreHeads code.now heads.now }
+    requires leaders { AreLeaders code.now leaders.now }
     requires shape { has_shape code.now (seen_cert cert.now) ≡ true }
     requires formed { AreFormed (seen_cert cert.now) }
     ensures first { IsAnswer (first_below (length code.now.code) (refusal_at code.now (meant code.now cert.now))) result }
@@ -154,7 +154,7 @@ pub(crate) fn check_lines(
     let count = code.len();
     let mut here = cert.state(0);
     for pc in 0..count {
-        here = check_line(code, cert, heads, pc, here)?;
+        here = check_line(code, cert, leaders, pc, here)?;
     }
     Ok(())
 }

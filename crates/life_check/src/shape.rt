@@ -2,7 +2,7 @@
 
 ghost use Rattle.std.specs.Prelude.{◌≡◌, ℕ, ◌||◌, ◌<◌, length, true, nat_le, not, if◌then◌else◌, is_some, IfSome};
 ghost use Rattle.life_check.specs.Prelude.{IsFormed, seen, seen_some, seen_cert, AreFormed, declares, has_in, has_no_cursor, fits_between, fits_line, fits_lines, has_shape};
-ghost use Rattle.life_check.specs.Prelude.{is_head, at_heads, names_shape, AreHeads};
+ghost use Rattle.life_check.specs.Prelude.{is_leader, at_leaders, names_shape, AreLeaders};
 
 use crate::cert::Cert;
 use crate::version::CertVersion;
@@ -109,26 +109,26 @@ pub(crate) fn has_shape(code: &Module, cert: &Cert) -> bool
     fits_between(code, cert.idle) & fits_between(code, cert.ready) & fits_lines(code, cert)
 }
 
-fn stands_at_head(code: &Module, heads: &[bool; 1025], pc: usize, state: Option<State>) -> bool
-    requires heads { AreHeads code.now heads.now }
+fn stands_at_leader(code: &Module, leaders: &[bool; 1025], pc: usize, state: Option<State>) -> bool
+    requires leaders { AreLeaders code.now leaders.now }
     requires few { is_some (seen_some state) ≡ true → pc < 1025 }
-    ensures { result ≡ is_head code.now pc || not (is_some (seen_some state)) }
+    ensures { result ≡ is_leader code.now pc || not (is_some (seen_some state)) }
 {
     match state {
         None => true,
-        Some(_) => heads[pc],
+        Some(_) => leaders[pc],
     }
 }
 
 /// Whether states are given at heads alone.
-pub(crate) fn at_heads(code: &Module, cert: &Cert, heads: &[bool; 1025]) -> bool
-    requires heads { AreHeads code.now heads.now }
+pub(crate) fn at_leaders(code: &Module, cert: &Cert, leaders: &[bool; 1025]) -> bool
+    requires leaders { AreLeaders code.now leaders.now }
     requires shape { has_shape code.now (seen_cert cert.now) ≡ true }
-    ensures { result ≡ at_heads code.now (seen_cert cert.now) }
+    ensures { result ≡ at_leaders code.now (seen_cert cert.now) }
 {
     let _count = code.len();
     for pc in 0..cert.at.len() {
-        let stands = stands_at_head(code, heads, pc, cert.state(pc));
+        let stands = stands_at_leader(code, leaders, pc, cert.state(pc));
         if !stands {
             return false;
         }

@@ -1,11 +1,11 @@
 //! What a certificate says against its module.
 
 use crate::flow::{FlowEdges, add_edges_of, state_at};
-use crate::told::{handler_name, put_at};
+use crate::told::{handler_name, put_at, put_filter_line};
+use explain_text::{ModuleText, Page, Topic, put_known};
 use life_cert::StatePlace;
 use life_check::{Cert, CertVersion, CheckRefusal, Rule};
 use life_state::{State, at_open, leq};
-use line_help::{ModuleText, Page, Topic, put_known};
 use module_code::Module;
 
 // The variables and cursors of a state: eight pools, nine brigades and nine cursors.
@@ -45,36 +45,36 @@ fn differing(state: &State, given: &State) -> u8 {
 }
 
 // Adds a text, and behind it the name of a place.
-fn put_place(told: &mut Page, source: &ModuleText, text: &str, place: StatePlace) {
+fn put_place(page: &mut Page, source: &ModuleText, text: &str, place: StatePlace) {
     match place {
-        StatePlace::At(pc) => put_at(told, source, pc, "$line #, `@`", text),
-        StatePlace::Idle => told.put_text("$`idle`", text),
-        StatePlace::Ready => told.put_text("$`ready`", text),
+        StatePlace::At(pc) => put_at(page, source, pc, "$line #, `@`", text),
+        StatePlace::Idle => page.put_text("$`idle`", text),
+        StatePlace::Ready => page.put_text("$`ready`", text),
     }
 }
 
 // Tells what the certificate says of the first part in which a state that comes is not below the one that is given.
-fn put_difference(told: &mut Page, state: &State, given: &State) {
+fn put_difference(page: &mut Page, state: &State, given: &State) {
     let index = differing(state, given);
     if state.sent() && !given.sent() {
-        told.push(
+        page.push(
             "an EOS of this request may have been passed\n  the certificate says there: no EOS of this request was passed\n",
         );
     } else if index == PARTS {
-        told.push(
+        page.push(
             "two cursors may be at one bucket\n  the certificate says there: they are at different buckets\n",
         );
     } else {
         let (topic, of) = part(index);
-        put_known(told, state, topic, of);
-        told.push("  the certificate says there: ");
-        put_known(told, given, topic, of);
+        put_known(page, state, topic, of);
+        page.push("  the certificate says there: ");
+        put_known(page, given, topic, of);
     }
 }
 
 // Tells how a state that comes to a place is not below the one that the certificate has there, and whether it is not.
 fn put_not_below(
-    told: &mut Page,
+    page: &mut Page,
     source: &ModuleText,
     cert: &Cert,
     place: StatePlace,
@@ -84,48 +84,48 @@ fn put_not_below(
         Some(given) => {
             let is_below = leq(state, &given);
             if !is_below {
-                put_place(told, source, "  what comes to ", place);
-                told.push(": ");
-                put_difference(told, state, &given);
+                put_place(page, source, "  what comes to ", place);
+                page.push(": ");
+                put_difference(page, state, &given);
             }
             !is_below
         }
         None => {
-            put_place(told, source, "  the certificate has no state for ", place);
-            told.push("\n");
+            put_place(page, source, "  the certificate has no state for ", place);
+            page.push("\n");
             true
         }
     }
 }
 
-fn put_from(told: &mut Page, source: &ModuleText, code: &Module, cert: &Cert, place: StatePlace) {
-    let mut edges = FlowEdges::new(told.alloc);
+fn put_from(page: &mut Page, source: &ModuleText, code: &Module, cert: &Cert, place: StatePlace) {
+    let mut edges = FlowEdges::new(page.alloc);
     if let Some(state) = state_at(cert, place) {
         add_edges_of(code, place, &state, false, &mut edges);
     }
-    told.full |= edges.full;
+    page.full |= edges.full;
     for edge in &edges.all {
-        if put_not_below(told, source, cert, edge.to, &edge.state) {
+        if put_not_below(page, source, cert, edge.to, &edge.state) {
             break;
         }
     }
 }
 
-fn put_entry(told: &mut Page, source: &ModuleText, code: &Module, cert: &Cert, pc: usize) {
+fn put_entry(page: &mut Page, source: &ModuleText, code: &Module, cert: &Cert, pc: usize) {
     let form = "line #: `$` does not begin as the certificate says\n";
-    put_at(told, source, pc, form, handler_name(code, pc));
+    put_at(page, source, pc, form, handler_name(code, pc));
     if pc == code.main() {
-        put_from(told, source, code, cert, StatePlace::Ready);
+        put_from(page, source, code, cert, StatePlace::Ready);
     } else if pc == code.init() {
-        put_from(told, source, code, cert, StatePlace::Idle);
+        put_from(page, source, code, cert, StatePlace::Idle);
     } else {
         let first = at_open(code.pool_count(), code.brigade_count());
-        put_not_below(told, source, cert, StatePlace::At(0), &first);
+        put_not_below(page, source, cert, StatePlace::At(0), &first);
     }
 }
 
 // Tells that a certificate is of another module; whether its lines `vars` and `code` say so.
-fn put_other_numbers(told: &mut Page, code: &Module, version: CertVersion) -> bool {
+fn put_other_numbers(page: &mut Page, code: &Module, version: CertVersion) -> bool {
     let CertVersion::Two {
         pools,
         brigades,
@@ -138,8 +138,8 @@ fn put_other_numbers(told: &mut Page, code: &Module, version: CertVersion) -> bo
     if pools == p && brigades == b && usize::from(count) == n {
         return false;
     }
-    told.full |= write!(
-        told.text,
+    page.full |= write!(
+        page.text,
         "the certificate is of another module: it says `vars {pools} {brigades}` and `code {count}`, and this module has `vars {p} {b}` and `code {n}`\n"
     )
     .is_err();
@@ -147,15 +147,15 @@ fn put_other_numbers(told: &mut Page, code: &Module, version: CertVersion) -> bo
 }
 
 // Tells how a certificate is not of the shape of its module.
-fn put_shape(told: &mut Page, code: &Module, cert: &Cert) {
-    if put_other_numbers(told, code, cert.version) {
+fn put_shape(page: &mut Page, code: &Module, cert: &Cert) {
+    if put_other_numbers(page, code, cert.version) {
         return;
     }
-    told.push(
+    page.push(
         "the states of the certificate are not of this module: other variables, `in` elsewhere than in `main`, a cursor between calls, or a line for no instruction\n",
     );
     if cert.slim {
-        told.push(
+        page.push(
             "  a slim certificate has lines only for the first instruction of each handler and for targets\n",
         );
     }
@@ -163,7 +163,7 @@ fn put_shape(told: &mut Page, code: &Module, cert: &Cert) {
 
 /// Tells what a certificate says against its module.
 pub fn put_certificate(
-    told: &mut Page,
+    page: &mut Page,
     source: &ModuleText,
     code: &Module,
     cert: &Cert,
@@ -171,19 +171,20 @@ pub fn put_certificate(
 ) {
     let pc = refusal.pc;
     match refusal.rule {
-        Rule::Shape => put_shape(told, code, cert),
+        Rule::Shape => put_shape(page, code, cert),
         Rule::Request => {
-            told.push("the end of a request leaves what `idle` does not allow\n");
-            put_from(told, source, code, cert, StatePlace::Ready);
+            page.push("the end of a request leaves what `idle` does not allow\n");
+            put_from(page, source, code, cert, StatePlace::Ready);
         }
-        Rule::Entry => put_entry(told, source, code, cert, pc),
+        Rule::Entry => put_entry(page, source, code, cert, pc),
         Rule::Exit | Rule::Flow | Rule::May(_) => {
             let says = match refusal.rule {
                 Rule::Exit => "leaves what the certificate does not allow between calls",
                 _ => "leads to what the certificate does not allow",
             };
-            put_at(told, source, pc, "line #: `@` $\n", says);
-            put_from(told, source, code, cert, StatePlace::At(pc));
+            put_at(page, source, pc, "line #: `@` $\n", says);
+            put_filter_line(page, source, pc);
+            put_from(page, source, code, cert, StatePlace::At(pc));
         }
     }
 }

@@ -4,10 +4,10 @@ ghost use Rattle.std.specs.Prelude.{◌≡◌, true, IfSome};
 ghost use Rattle.module_code.specs.Program.{fits};
 
 use crate::needs::doubt_of;
-use life_cert::{Arrival, Growth, StatePlace, round_count};
-use life_check::{Cert, CertVersion, heads};
+use explain_text::{Doubt, Page};
+use life_cert::{Arrival, Fixpoint, StatePlace, round_count};
+use life_check::{Cert, CertVersion, leaders};
 use life_state::{State, Successors, after, at_end_of_request, at_main, at_return};
-use line_help::{Doubt, Page};
 use module_code::{Instr, Module, PoolRef};
 use run_model::FaultKind;
 use std::alloc::{AllocError, Global};
@@ -89,12 +89,12 @@ fn handed_on(code: &Module, pc: usize, here: Option<State>) -> Option<State> {
 
 /// The states that a certificate means, one by one: where a slim one gives none, what the instruction before hands on.
 pub fn meant(alloc: Global, code: &Module, cert: &Cert) -> Result<Cert, AllocError> {
-    let heads = heads(code);
+    let leaders = leaders(code);
     let mut at = Vec::new(alloc);
     let mut here = cert.state(0);
     for pc in 0..code.len() {
         at.push(here)?;
-        let is_given = !cert.slim || heads[pc + 1];
+        let is_given = !cert.slim || leaders[pc + 1];
         here = if is_given {
             cert.state(pc + 1)
         } else {
@@ -255,12 +255,12 @@ pub fn all_edges(alloc: Global, code: &Module, states: &Cert) -> FlowEdges {
 }
 
 // Lets a state come by an edge, where it fits. The page is full where memory was refused for it.
-fn arrive(told: &mut Page, growth: &mut Growth, edge: &FlowEdge) {
+fn merge(page: &mut Page, fixpoint: &mut Fixpoint, edge: &FlowEdge) {
     let is_inside = match edge.to {
-        StatePlace::At(pc) => pc < growth.cert.at.len(),
+        StatePlace::At(pc) => pc < fixpoint.cert.at.len(),
         StatePlace::Idle | StatePlace::Ready => true,
     };
-    let fits = match growth.state(edge.to) {
+    let fits = match fixpoint.state(edge.to) {
         Some(there) => {
             there.pool_count() == edge.state.pool_count()
                 && there.brigade_count() == edge.state.brigade_count()
@@ -272,45 +272,45 @@ fn arrive(told: &mut Page, growth: &mut Growth, edge: &FlowEdge) {
         state: edge.state,
     };
     if is_inside && fits {
-        told.full |= growth.arrive(&arrival).is_err();
+        page.full |= fixpoint.merge(&arrival).is_err();
     }
 }
 
 // The edges from where the states grew.
-fn grown_edges(alloc: Global, code: &Module, growth: &Growth) -> FlowEdges {
+fn grown_edges(alloc: Global, code: &Module, fixpoint: &Fixpoint) -> FlowEdges {
     let mut edges = FlowEdges::new(alloc);
-    for place in &growth.grown {
-        add_edges(code, &growth.cert, *place, &mut edges);
+    for place in &fixpoint.changed {
+        add_edges(code, &fixpoint.cert, *place, &mut edges);
     }
     edges
 }
 
 // A round of the maker, in which an instruction that may have a fault hands on what it would if its rule were met. The page is full
 // where memory was refused.
-fn round(told: &mut Page, code: &Module, growth: &mut Growth) {
-    let edges = grown_edges(told.alloc, code, growth);
-    told.full |= edges.full;
-    growth.grown.clear();
+fn round(page: &mut Page, code: &Module, fixpoint: &mut Fixpoint) {
+    let edges = grown_edges(page.alloc, code, fixpoint);
+    page.full |= edges.full;
+    fixpoint.changed.clear();
     for edge in &edges.all {
-        arrive(told, growth, edge);
+        merge(page, fixpoint, edge);
     }
 }
 
-fn grow(told: &mut Page, code: &Module, growth: &mut Growth) {
+fn grow(page: &mut Page, code: &Module, fixpoint: &mut Fixpoint) {
     for _ in 0..round_count(code) {
-        if growth.grown.is_empty() {
+        if fixpoint.changed.is_empty() {
             break;
         }
-        round(told, code, growth);
+        round(page, code, fixpoint);
     }
 }
 
 // The states of a module, as the maker of certificates lets them grow, but that an instruction that may have a fault leads where it
 // would if its rule were met.
-fn states_of(told: &mut Page, code: &Module) -> Result<Cert, AllocError> {
-    let mut growth = Growth::new(told.alloc, code)?;
-    grow(told, code, &mut growth);
-    Ok(growth.cert)
+fn states_of(page: &mut Page, code: &Module) -> Result<Cert, AllocError> {
+    let mut fixpoint = Fixpoint::new(page.alloc, code)?;
+    grow(page, code, &mut fixpoint);
+    Ok(fixpoint.cert)
 }
 
 /// The refusal of an instruction, by this fault where one is given, if it has one in these states.
@@ -332,12 +332,12 @@ pub fn refusal_of(
 }
 
 // The instructions that may have a fault in these states.
-fn judge(told: &mut Page, code: &Module, states: Cert) -> Judged {
-    let mut refusals = Vec::new(told.alloc);
+fn judge(page: &mut Page, code: &Module, states: Cert) -> Judged {
+    let mut refusals = Vec::new(page.alloc);
     let mut failures = 0usize;
     for pc in 0..code.len() {
         if let Some(refusal) = refusal_of(code, &states, pc, None) {
-            told.full |= refusals.push(refusal).is_err();
+            page.full |= refusals.push(refusal).is_err();
         }
         if let Some(mut state) = states.state(pc) {
             failures = failures.saturating_add(meet(code, pc, &mut state));
@@ -352,11 +352,11 @@ fn judge(told: &mut Page, code: &Module, states: Cert) -> Judged {
 
 /// The states of a module, and the instructions that may have a fault in them. Where memory was refused the page is full, and what is
 /// given is not whole, or nothing.
-pub fn judged_of(told: &mut Page, code: &Module) -> Option<Judged> {
-    match states_of(told, code) {
-        Ok(states) => Some(judge(told, code, states)),
+pub fn judged_of(page: &mut Page, code: &Module) -> Option<Judged> {
+    match states_of(page, code) {
+        Ok(states) => Some(judge(page, code, states)),
         Err(_) => {
-            told.full = true;
+            page.full = true;
             None
         }
     }

@@ -3,8 +3,8 @@
 ghost use Rattle.std.specs.Prelude.{◌≡◌, true};
 ghost use Rattle.module_code.specs.Program.{fits};
 
+use explain_text::{Doubt, Sort};
 use life_state::{Contents, CursorState, State};
-use line_help::{Doubt, Sort};
 use module_code::{Instr, Module, PoolRef};
 use run_model::{Need, Want, wants};
 

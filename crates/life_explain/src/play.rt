@@ -1,12 +1,12 @@
 //! The help on what a play answered.
 
-use crate::help::{cert_of, module_of, tell_texts};
-use crate::session::tell_fault;
-use crate::told::put_at;
+use crate::help::{cert_of, module_of, write_texts};
+use crate::session::write_fault;
+use crate::told::{put_at, put_filter_line};
 use byte_text::{is_text, token};
-use line_help::{
+use explain_text::{
     AnsweredCommand, ModuleText, Page, Script, ScriptLine, ScriptText, fault_of, is_told, lines_of,
-    number, shown, tell_refused, tell_script_fault, word,
+    number, shown, word, write_refused, write_script_fault,
 };
 use run_model::FaultKind;
 use script_text::{fault_name, fault_named};
@@ -56,11 +56,11 @@ fn goes_on(command: Option<ScriptLine<'_>>, answer: &[u8]) -> bool {
 
 // The lines of the answers, each with its command.
 fn answered<'a>(
-    told: &mut Page,
+    page: &mut Page,
     script: &Script<'a>,
     lines: &[ScriptLine<'a>],
 ) -> Vec<AnsweredCommand<'a>> {
-    let mut found = Vec::new(told.alloc);
+    let mut found = Vec::new(page.alloc);
     let mut at = script.before;
     for line in lines {
         let answer = line.text;
@@ -71,14 +71,14 @@ fn answered<'a>(
                 .copied(),
             _ => None,
         };
-        told.full |= found.push(AnsweredCommand { command, answer }).is_err();
+        page.full |= found.push(AnsweredCommand { command, answer }).is_err();
         at = at.saturating_add(usize::from(!goes_on(command, answer)));
     }
     found
 }
 
 // Tells what a fault means, where it is and what to write instead.
-fn tell_fault_of(told: &mut Page, script: &Script<'_>, answered: &AnsweredCommand<'_>) {
+fn write_fault_of(page: &mut Page, script: &Script<'_>, answered: &AnsweredCommand<'_>) {
     let answer = answered.answer;
     let (Some(kind), Some(index), Some(pc), Some(command)) = (
         fault_named(word(answer, 1)),
@@ -89,90 +89,91 @@ fn tell_fault_of(told: &mut Page, script: &Script<'_>, answered: &AnsweredComman
         return;
     };
     if let Some((text, _)) = script.module(index) {
-        told.put_line("line #, `@`: ", command.number, shown(command.text));
-        tell_fault_at(told, text, index, pc, kind);
+        page.put_line("line #, `@`: ", command.number, shown(command.text));
+        write_fault_at(page, text, index, pc, kind);
     }
 }
 
 // Tells of a fault in the module of this number and this text, at this instruction.
-fn tell_fault_at(told: &mut Page, text: ScriptText<'_>, index: usize, pc: usize, kind: FaultKind) {
-    let source = ModuleText::of(told.alloc, text.text, text.before);
-    put_at(told, &source, pc, "line #, `@`, of module ", "");
-    told.put("# has $: ", index, &[], fault_name(kind));
-    told.put_text("$\n", fault_of(kind).0);
-    tell_fault(told, &source, pc, kind);
+fn write_fault_at(page: &mut Page, text: ScriptText<'_>, index: usize, pc: usize, kind: FaultKind) {
+    let source = ModuleText::of(page.alloc, text.text, text.before);
+    put_at(page, &source, pc, "line #, `@`, of module ", "");
+    page.put("# has $: ", index, &[], fault_name(kind));
+    page.put_text("$\n", fault_of(kind).0);
+    put_filter_line(page, &source, pc);
+    write_fault(page, &source, pc, kind);
 }
 
-fn tell_module(told: &mut Page, script: &Script<'_>, answer: &[u8]) {
+fn write_module(page: &mut Page, script: &Script<'_>, answer: &[u8]) {
     let Some(index) = number(answer, 2) else {
         return;
     };
     if let Some((text, cert)) = script.module(index) {
-        told.put_number("module #, ", index);
+        page.put_number("module #, ", index);
         let first = text.before.saturating_add(1);
-        told.put_number("from line # on, is not accepted\n", first);
-        tell_texts(told, text, cert);
+        page.put_number("from line # on, is not accepted\n", first);
+        write_texts(page, text, cert);
     }
 }
 
 // Tells what is wrong with the text that a line of this number is of.
-fn tell_text(told: &mut Page, script: &Script<'_>, number: usize) {
+fn write_text(page: &mut Page, script: &Script<'_>, number: usize) {
     if let Some(text) = script.text_with(number) {
         if text.is_cert {
-            let _told = cert_of(told, text);
+            let _told = cert_of(page, text);
         } else {
-            let _told = module_of(told, text);
+            let _told = module_of(page, text);
         }
     }
 }
 
 // Tells what an answer means; whether there was something to tell.
-fn tell_answer(
-    told: &mut Page,
+fn write_answer(
+    page: &mut Page,
     script: &Script<'_>,
     earlier: &[AnsweredCommand<'_>],
     answered: &AnsweredCommand<'_>,
 ) -> bool {
     let line = number(answered.answer, 2).unwrap_or(0);
     match kind_of(answered.answer) {
-        AnswerKind::Fault => tell_fault_of(told, script, answered),
-        AnswerKind::Refused => tell_refused(told, script, earlier, answered),
-        AnswerKind::RefusedModule => tell_module(told, script, answered.answer),
-        AnswerKind::Text => tell_text(told, script, line),
-        AnswerKind::Script => tell_script_fault(told, script, line),
+        AnswerKind::Fault => write_fault_of(page, script, answered),
+        AnswerKind::Refused => write_refused(page, script, earlier, answered),
+        AnswerKind::RefusedModule => write_module(page, script, answered.answer),
+        AnswerKind::Text => write_text(page, script, line),
+        AnswerKind::Script => write_script_fault(page, script, line),
         AnswerKind::Well => return false,
     }
     true
 }
 
 // Tells what the answers mean, each where it was not told before.
-fn tell_answers<'a>(
-    told: &mut Page,
+fn write_answers<'a>(
+    page: &mut Page,
     script: &Script<'_>,
     answered: &[AnsweredCommand<'a>],
     done: &mut Vec<AnsweredCommand<'a>>,
 ) {
     for (index, answer) in answered.iter().enumerate() {
         if done.len() == MOST {
-            told.push("what is answered from then on is not explained\n");
+            page.push("what is answered from then on is not explained\n");
             break;
         }
         let earlier = answered.get(..index).unwrap_or(&[]);
-        if !is_told(done.as_slice(), answer) && tell_answer(told, script, earlier, answer) {
-            told.full |= done.push(*answer).is_err();
+        if !is_told(done.as_slice(), answer) && write_answer(page, script, earlier, answer) {
+            page.full |= done.push(*answer).is_err();
         }
     }
 }
 
-fn tell_play<'a>(told: &mut Page, script: &'a [u8], answers: &'a [u8]) {
-    let script = Script::of(told, script);
-    let lines = lines_of(told, answers, 0);
-    let answered = answered(told, &script, lines.as_slice());
-    tell_answers(
-        told,
+fn write_play<'a>(page: &mut Page, script: &'a [u8], answers: &'a [u8]) {
+    let script = Script::of(page, script);
+    let lines = lines_of(page, answers, 0);
+    let answered = answered(page, &script, lines.as_slice());
+    write_answers(
+        page,
         &script,
         answered.as_slice(),
-        &mut Vec::new(told.alloc),
+        &mut Vec::new(page.alloc),
     );
 }
 
@@ -183,7 +184,7 @@ pub fn explain_play<'a>(
     script: &'a [u8],
     answers: &'a [u8],
 ) -> Result<String, AllocError> {
-    let mut told = Page::new(alloc);
-    tell_play(&mut told, script, answers);
-    told.finished()
+    let mut page = Page::new(alloc);
+    write_play(&mut page, script, answers);
+    page.finished()
 }

@@ -5,13 +5,13 @@ use crate::flow::{FlowRefusal, home_of, instr_at, parent_of};
 use crate::rules::{Fresh, HelpRule, Per, Test, When, names_of, rule_tables};
 use crate::trail::Trail;
 use byte_text::{after_token, begins, is_text, len_before, tail, token};
-use life_cert::StatePlace;
-use life_check::Cert;
-use life_state::{Classes, CursorState};
-use line_help::{
+use explain_text::{
     Edit, ModuleText, NO_LINE, Page, Pattern, Sort, Topic, brigade_name, cursor_text, last_word,
     pool_text, stands_in, text_of,
 };
+use life_cert::StatePlace;
+use life_check::Cert;
+use life_state::{Classes, CursorState};
 use module_code::parts::parts;
 use module_code::{Args, Instr, Module, Op, PoolRef, Status};
 use std::alloc::Global;
@@ -32,7 +32,7 @@ pub struct Case<'s> {
     pub trail: &'s Trail,
     pub refusal: FlowRefusal,
     /// The remedies so far, their edits, and the lines that these write.
-    pub heads: Vec<Head>,
+    pub leaders: Vec<Head>,
     pub edits: Vec<Edit>,
     pub page: Page,
     // The instruction that made it so, and the return by which it left an earlier call; `NO_LINE` where there is none.
@@ -95,7 +95,7 @@ impl<'s> Case<'s> {
             states: module.1,
             trail,
             refusal,
-            heads: Vec::new(alloc),
+            leaders: Vec::new(alloc),
             edits: Vec::new(alloc),
             page: Page::new(alloc),
             maker,
@@ -485,7 +485,7 @@ impl<'s> Case<'s> {
             pattern: rule.pattern,
             from: self.edits.len(),
         };
-        self.page.full |= self.heads.push(head).is_err();
+        self.page.full |= self.leaders.push(head).is_err();
         self.write(script);
     }
 

@@ -1,6 +1,6 @@
 //! Remedies that are worth a try, as a table.
 
-use line_help::{Pattern, Sort};
+use explain_text::{Pattern, Sort};
 
 /// Where remedies of a rule are tried.
 #[derive(Clone, Copy)]

@@ -2,11 +2,11 @@
 
 use crate::flow::{FlowRefusal, Judged, all_edges, judged_of, refusal_of};
 use crate::remedy::Case;
-use crate::told::{put_advice, put_at, put_remedy, put_trail};
+use crate::told::{put_advice, put_at, put_filter_line, put_remedy, put_trail};
 use crate::trail::{Known, trail_to};
+use explain_text::{Edit, ModuleText, Page, Pattern, Sort, fault_of, put_rule};
 use life_check::Cert;
 use life_state::State;
-use line_help::{Edit, ModuleText, Page, Pattern, Sort, fault_of, put_rule};
 use module_code::Module;
 use module_lang::{AsmRefusal, assemble};
 use run_model::FaultKind;
@@ -34,19 +34,19 @@ struct Mended {
 
 // The study of a source; nothing where it is no module. Where memory was refused the page is full, and the study may be missing or not
 // whole.
-fn study_of(told: &mut Page, source: &ModuleText) -> Option<Study> {
-    told.full |= source.page.full;
-    match assemble(told.alloc, source.page.text.as_bytes()) {
-        Ok(code) => studied(told, code),
+fn study_of(page: &mut Page, source: &ModuleText) -> Option<Study> {
+    page.full |= source.page.full;
+    match assemble(page.alloc, source.page.text.as_bytes()) {
+        Ok(code) => studied(page, code),
         Err(refusal) => {
-            told.full |= matches!(refusal, AsmRefusal::NoMemory);
+            page.full |= matches!(refusal, AsmRefusal::NoMemory);
             None
         }
     }
 }
 
-fn studied(told: &mut Page, code: Module) -> Option<Study> {
-    match judged_of(told, &code) {
+fn studied(page: &mut Page, code: Module) -> Option<Study> {
+    match judged_of(page, &code) {
         Some(judged) => Some(Study { code, judged }),
         None => None,
     }
@@ -75,8 +75,8 @@ fn is_settled(source: &ModuleText, judged: &Judged, line: usize) -> bool {
 }
 
 // How many tests may fail in a source, and whether a line is refused no more; nothing where it is no module.
-fn outcome(told: &mut Page, source: &ModuleText, line: usize) -> Option<(usize, bool)> {
-    match study_of(told, source) {
+fn outcome(page: &mut Page, source: &ModuleText, line: usize) -> Option<(usize, bool)> {
+    match study_of(page, source) {
         Some(study) => Some((
             study.judged.failures,
             is_settled(source, &study.judged, line),
@@ -88,7 +88,7 @@ fn outcome(told: &mut Page, source: &ModuleText, line: usize) -> Option<(usize, 
 // Tries these edits, and keeps what is mended by them where fewer tests than this may fail, or as many where such ties count and it
 // settles the refusal; tells whether it is kept.
 fn tries(
-    told: &mut Page,
+    page: &mut Page,
     case: &Case<'_>,
     edits: &[Edit],
     (least, ties): (usize, bool),
@@ -99,7 +99,7 @@ fn tries(
     }
     let source = case.source.edited(&case.page, edits);
     let line = case.source.number_of(case.refusal.pc);
-    let Some((left, settled)) = outcome(told, &source, line) else {
+    let Some((left, settled)) = outcome(page, &source, line) else {
         return false;
     };
     let helps = left < least || ties && settled && left == least;
@@ -118,7 +118,7 @@ fn edits_of<'a>(case: &'a Case<'_>, index: usize) -> &'a [Edit] {
 
 // Where the edits of a remedy begin; behind the last remedy, where those of all end.
 fn first_edit(case: &Case<'_>, index: usize) -> usize {
-    match case.heads.get(index) {
+    match case.leaders.get(index) {
         Some(head) => head.from,
         None => case.edits.len(),
     }
@@ -126,7 +126,7 @@ fn first_edit(case: &Case<'_>, index: usize) -> usize {
 
 // The first remedy that leaves the fewest tests that may fail, and fewer than there are.
 fn best(
-    told: &mut Page,
+    page: &mut Page,
     case: &Case<'_>,
     now: usize,
     mended: &mut Option<Mended>,
@@ -143,8 +143,8 @@ fn best(
             | Sort::GoneBrigade
             | Sort::LiveBrigade
     );
-    for index in 0..case.heads.len().min(TRIES) {
-        if least != 0 && tries(told, case, edits_of(case, index), (least, ties), mended) {
+    for index in 0..case.leaders.len().min(TRIES) {
+        if least != 0 && tries(page, case, edits_of(case, index), (least, ties), mended) {
             ties = false;
             least = left_of(mended);
             best = Some(index);
@@ -161,10 +161,10 @@ fn left_of(mended: &Option<Mended>) -> usize {
 }
 
 // The same without cleans that change nothing.
-fn prune(told: &mut Page, case: &Case<'_>, edits: &mut Vec<Edit>, mended: &mut Option<Mended>) {
+fn prune(page: &mut Page, case: &Case<'_>, edits: &mut Vec<Edit>, mended: &mut Option<Mended>) {
     let mut index = 0usize;
     for _ in 0..edits.len() {
-        if edits.len() > 1 && !goes(told, case, index, edits, mended) {
+        if edits.len() > 1 && !goes(page, case, index, edits, mended) {
             index = index.saturating_add(1);
         }
     }
@@ -172,7 +172,7 @@ fn prune(told: &mut Page, case: &Case<'_>, edits: &mut Vec<Edit>, mended: &mut O
 
 // Takes out an edit where no more tests may fail without it; tells whether it did.
 fn goes(
-    told: &mut Page,
+    page: &mut Page,
     case: &Case<'_>,
     index: usize,
     edits: &mut Vec<Edit>,
@@ -183,45 +183,45 @@ fn goes(
     };
     edits.remove(index);
     let least = left_of(mended).saturating_add(1);
-    let goes = tries(told, case, edits.as_slice(), (least, false), mended);
+    let goes = tries(page, case, edits.as_slice(), (least, false), mended);
     if !goes {
-        told.full |= edits.insert(index, edit).is_err();
+        page.full |= edits.insert(index, edit).is_err();
     }
     goes
 }
 
 // Tells what to write, as it was tried, or in words.
-fn tell_remedy(told: &mut Page, case: &mut Case<'_>, now: usize, mended: &mut Option<Mended>) {
+fn write_remedy(page: &mut Page, case: &mut Case<'_>, now: usize, mended: &mut Option<Mended>) {
     if now == 0 {
         return;
     }
     case.find_remedies();
-    told.full |= case.page.full;
-    match best(told, case, now, mended) {
-        Some(index) => tell_best(told, case, index, mended),
-        None => put_advice(told, case.pattern()),
+    page.full |= case.page.full;
+    match best(page, case, now, mended) {
+        Some(index) => write_best(page, case, index, mended),
+        None => put_advice(page, case.pattern()),
     }
 }
 
-fn tell_best(told: &mut Page, case: &Case<'_>, index: usize, mended: &mut Option<Mended>) {
-    let pattern = match case.heads.get(index) {
+fn write_best(page: &mut Page, case: &Case<'_>, index: usize, mended: &mut Option<Mended>) {
+    let pattern = match case.leaders.get(index) {
         Some(head) => head.pattern,
         None => case.pattern(),
     };
-    match Vec::from_slice(told.alloc, edits_of(case, index)) {
+    match Vec::from_slice(page.alloc, edits_of(case, index)) {
         Ok(mut edits) => {
             if let Pattern::CleanWhenFailed = pattern {
-                prune(told, case, &mut edits, mended);
+                prune(page, case, &mut edits, mended);
             }
-            put_remedy(told, case.source, pattern, &case.page, edits.as_slice());
+            put_remedy(page, case.source, pattern, &case.page, edits.as_slice());
         }
-        Err(_) => told.full = true,
+        Err(_) => page.full = true,
     }
 }
 
 // Tells where what may be so comes from, and what to write. It keeps the source as it is mended, where lines were found that help.
-fn tell_cause(
-    told: &mut Page,
+fn write_cause(
+    page: &mut Page,
     source: &ModuleText,
     module: (&Module, &Cert),
     refusal: FlowRefusal,
@@ -229,7 +229,7 @@ fn tell_cause(
     mended: &mut Option<Mended>,
 ) {
     let (code, states) = module;
-    let alloc = told.alloc;
+    let alloc = page.alloc;
     let edges = all_edges(alloc, code, states);
     let known = Known {
         alloc,
@@ -238,24 +238,25 @@ fn tell_cause(
         edges: edges.all.as_slice(),
     };
     let trail = trail_to(&known, refusal.pc, refusal.doubt);
-    told.full |= edges.full || trail.full;
-    put_trail(told, source, code, &trail, refusal.doubt);
+    page.full |= edges.full || trail.full;
+    put_trail(page, source, code, &trail, refusal.doubt);
     let mut case = Case::new(alloc, source, module, &trail, refusal);
-    tell_remedy(told, &mut case, now, mended);
+    write_remedy(page, &mut case, now, mended);
 }
 
-fn tell_may(told: &mut Page, source: &ModuleText, state: &State, refusal: FlowRefusal) {
+fn write_may(page: &mut Page, source: &ModuleText, state: &State, refusal: FlowRefusal) {
     let kind = refusal.kind;
     let form = "line #: `@` may have $: ";
-    put_at(told, source, refusal.pc, form, fault_name(kind));
-    told.put_text("$\n", fault_of(kind).0);
-    put_rule(told, state, refusal.doubt);
+    put_at(page, source, refusal.pc, form, fault_name(kind));
+    page.put_text("$\n", fault_of(kind).0);
+    put_filter_line(page, source, refusal.pc);
+    put_rule(page, state, refusal.doubt);
 }
 
 // Tells a refusal in these states. The source is then as it is mended, where lines were found that help; if these do not leave fewer
 // tests that may fail, the line is one of those that were seen.
-fn tell(
-    told: &mut Page,
+fn write_help(
+    page: &mut Page,
     source: &mut ModuleText,
     module: (&Module, &Cert),
     refusal: FlowRefusal,
@@ -263,18 +264,18 @@ fn tell(
     seen: &mut Vec<usize>,
 ) {
     if let Some(state) = module.1.state(refusal.pc) {
-        tell_may(told, source, &state, refusal);
+        write_may(page, source, &state, refusal);
     }
     let line = source.number_of(refusal.pc);
     let mut mended = None;
-    tell_cause(told, source, module, refusal, now, &mut mended);
+    write_cause(page, source, module, refusal, now, &mut mended);
     let mut left = now;
     if let Some(mended) = mended {
         *source = mended.source;
         left = mended.left;
     }
     if left >= now {
-        told.full |= seen.push(line).is_err();
+        page.full |= seen.push(line).is_err();
     }
 }
 
@@ -293,37 +294,37 @@ fn next_refusal(
 }
 
 // Tells the first refusal of a study whose line was not told yet, if there is one.
-fn tell_first(
-    told: &mut Page,
+fn write_first(
+    page: &mut Page,
     source: &mut ModuleText,
     study: &Study,
     seen: &mut Vec<usize>,
 ) -> bool {
     let refusals = study.judged.refusals.as_slice();
     if refusals.is_empty() {
-        told.push("with these lines the module is accepted\n");
+        page.push("with these lines the module is accepted\n");
         return false;
     }
     let Some(refusal) = next_refusal(source, refusals, seen.as_slice()) else {
         return false;
     };
     let module = (&study.code, &study.judged.states);
-    tell(told, source, module, refusal, study.judged.failures, seen);
+    write_help(page, source, module, refusal, study.judged.failures, seen);
     true
 }
 
 // The same of a source; nothing is told where it is no module.
-fn tell_next(told: &mut Page, source: &mut ModuleText, seen: &mut Vec<usize>) -> bool {
-    match study_of(told, source) {
-        Some(study) => tell_first(told, source, &study, seen),
+fn write_next(page: &mut Page, source: &mut ModuleText, seen: &mut Vec<usize>) -> bool {
+    match study_of(page, source) {
+        Some(study) => write_first(page, source, &study, seen),
         None => false,
     }
 }
 
 // Tells the refusals that are left, up to sixteen.
-fn tell_rest(told: &mut Page, source: &mut ModuleText, seen: &mut Vec<usize>) {
+fn write_rest(page: &mut Page, source: &mut ModuleText, seen: &mut Vec<usize>) {
     for _ in 0..MOST {
-        if !tell_next(told, source, seen) {
+        if !write_next(page, source, seen) {
             break;
         }
     }
@@ -334,62 +335,62 @@ const NOTHING: &str =
     "  write: nothing; `certify` makes a certificate with which the module is accepted\n";
 
 // Tells of the refusals of a module, of which this is the first.
-fn tell_from(
-    told: &mut Page,
+fn write_from(
+    page: &mut Page,
     source: &mut ModuleText,
     module: (&Module, &Cert),
     refusal: FlowRefusal,
     seen: &mut Vec<usize>,
 ) {
-    let now = match outcome(told, source, 0) {
+    let now = match outcome(page, source, 0) {
         Some((failures, _)) => failures,
         None => 0,
     };
-    tell(told, source, module, refusal, now, seen);
+    write_help(page, source, module, refusal, now, seen);
     if now == 0 {
-        told.push(NOTHING);
+        page.push(NOTHING);
     } else {
-        tell_rest(told, source, seen);
+        write_rest(page, source, seen);
     }
 }
 
 /// Tells why an instruction of a module is refused in these states, and why others are that do not follow from it. The source is then as
 /// it is mended.
-pub fn tell_refusals(
-    told: &mut Page,
+pub fn write_refusals(
+    page: &mut Page,
     source: &mut ModuleText,
     code: &Module,
     states: &Cert,
     pc: usize,
 ) {
     if let Some(refusal) = refusal_of(code, states, pc, None) {
-        let mut seen = Vec::new(told.alloc);
-        tell_from(told, source, (code, states), refusal, &mut seen);
+        let mut seen = Vec::new(page.alloc);
+        write_from(page, source, (code, states), refusal, &mut seen);
     }
 }
 
 /// Tells what the rule of an instruction wants that had this fault, where that comes from, and what to write instead.
-pub fn tell_fault(told: &mut Page, source: &ModuleText, pc: usize, kind: FaultKind) {
-    if let Some(study) = study_of(told, source) {
-        tell_fault_in(told, source, &study, pc, kind);
+pub fn write_fault(page: &mut Page, source: &ModuleText, pc: usize, kind: FaultKind) {
+    if let Some(study) = study_of(page, source) {
+        write_fault_in(page, source, &study, pc, kind);
     }
 }
 
-fn tell_fault_in(told: &mut Page, source: &ModuleText, study: &Study, pc: usize, kind: FaultKind) {
+fn write_fault_in(page: &mut Page, source: &ModuleText, study: &Study, pc: usize, kind: FaultKind) {
     let module = (&study.code, &study.judged.states);
     let (Some(refusal), Some(state)) = (
         refusal_of(module.0, module.1, pc, Some(kind)),
         module.1.state(pc),
     ) else {
-        return put_advice(told, fault_of(kind).1);
+        return put_advice(page, fault_of(kind).1);
     };
-    put_rule(told, &state, refusal.doubt);
+    put_rule(page, &state, refusal.doubt);
     let mut mended = None;
     let now = study.judged.failures;
-    tell_cause(told, source, module, refusal, now, &mut mended);
+    write_cause(page, source, module, refusal, now, &mut mended);
     match &mended {
-        Some(mended) if mended.left == 0 => told.push("with these lines the module is accepted\n"),
-        Some(_) => told.push(
+        Some(mended) if mended.left == 0 => page.push("with these lines the module is accepted\n"),
+        Some(_) => page.push(
             "with these lines other instructions may have a fault; `certify --explain` tells them\n",
         ),
         None => {}

@@ -1,9 +1,9 @@
 //! Where what may be so at an instruction comes from.
 
 use crate::flow::{FlowEdge, FlowEdges, add_edges_of, is_same, state_at};
+use explain_text::{Doubt, Sort};
 use life_cert::StatePlace;
 use life_check::Cert;
-use line_help::{Doubt, Sort};
 use module_code::Module;
 use std::alloc::Global;
 

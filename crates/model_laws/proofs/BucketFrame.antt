@@ -13,7 +13,7 @@ use Rattle.run_model.specs.State.{Configuration, set_loose, set_cursor, set_numb
 use Rattle.run_model.specs.Faults.{has_pool_at, has_pool, is_live_named, cursor_fault, OnBucket}
 use Rattle.run_model.specs.BrigadeLists.{put_before}
 use Rattle.run_model.specs.Effects.{all_referred, value_of}
-use Rattle.run_model.specs.Cursors.{Place, AtLoose, Within, at_cursor, read_cursor}
+use Rattle.run_model.specs.Cursors.{CursorPlace, AtLoose, Within, at_cursor, read_cursor}
 use Rattle.run_model.specs.BucketSteps.{set_items, do_next, do_unlink, do_delete, put_into, do_before, names_given, new_loose, do_make, is_unsplit, split_there, do_split, aside_into, read_given}
 use Rattle.run_model.specs.BucketSteps.{read_within, do_read, got}
 use Rattle.run_model.specs.declared.effect.Effect.{Effect}
@@ -65,26 +65,26 @@ alive_aside p (instr.Aside c q) r may = λ d k n is named. let same : q ≡ k = 
 alive_aside p i r may = λ d k n is named. absurd (cc)
 
 module _ (P : Configuration → Type 0) (f : IsFrame P) where
-  unlink_framed : (s : Place) (r : Configuration) → P r → P (do_unlink s r)
+  unlink_framed : (s : CursorPlace) (r : Configuration) → P r → P (do_unlink s r)
   unlink_framed (Within b x) r h = f.loose _ _ (f.items b _ r h)
   unlink_framed s r h = h
 
-  delete_framed : (s : Place) (r : Configuration) → P r → P (do_delete s r)
+  delete_framed : (s : CursorPlace) (r : Configuration) → P r → P (do_delete s r)
   delete_framed (Within b x) r h = f.items b _ r h
   delete_framed (AtLoose x) r h = f.loose _ r h
   delete_framed s r h = h
 
-  put_framed : (insert : NamedBucket → List NamedBucket → List NamedBucket) (b : ℕ) (s : Place) (r : Configuration) → P r → P (put_into insert b s r)
+  put_framed : (insert : NamedBucket → List NamedBucket → List NamedBucket) (b : ℕ) (s : CursorPlace) (r : Configuration) → P r → P (put_into insert b s r)
   put_framed insert b (AtLoose x) r h = f.items b _ _ (f.loose _ r h)
   put_framed insert b s r h = h
 
-  before_framed : (s t : Place) (r : Configuration) → P r → P (do_before s t r)
+  before_framed : (s t : CursorPlace) (r : Configuration) → P r → P (do_before s t r)
   before_framed s (Within b y) r h = put_framed (put_before y.name) b s r h
   before_framed s t r h = h
 
-  split_framed : (n : ℕ) (s : Place) (r : Configuration) → P r → P (do_split n s r)
+  split_framed : (n : ℕ) (s : CursorPlace) (r : Configuration) → P r → P (do_split n s r)
   split_framed n s r h = by_test (is_unsplit n s) where
-    there : (s : Place) → P (split_there n s r)
+    there : (s : CursorPlace) → P (split_there n s r)
     there (Within b x) = f.items b _ _ (f.names 1 r h)
     there s = h
 
@@ -92,7 +92,7 @@ module _ (P : Configuration → Type 0) (f : IsFrame P) where
     by_test true = h
     by_test false = there s
 
-  aside_framed : (s : Place) (target : ℕ) (r : Configuration) → is_live r.shared.pools target ≡ true → P r → P (aside_into s target r)
+  aside_framed : (s : CursorPlace) (target : ℕ) (r : Configuration) → is_live r.shared.pools target ≡ true → P r → P (aside_into s target r)
   aside_framed (Within b x) target r lives h = f.items b _ _ (f.refs target _ r lives h)
   aside_framed (AtLoose x) target r lives h = f.loose _ _ (f.refs target _ r lives h)
   aside_framed s target r lives h = h
@@ -121,7 +121,7 @@ module _ (P : Configuration → Type 0) (f : IsFrame P) (set : (c : ℕ) (v : Cu
   new_placed : (c : ℕ) (b : Bucket) (r : Configuration) → P r → P (new_loose c b r)
   new_placed c b r s = set c _ _ (f.loose _ _ (f.names 1 r s))
 
-  next_placed : (d : ℕ) (s : Place) (r : Configuration) → P r → P (do_next d s r)
+  next_placed : (d : ℕ) (s : CursorPlace) (r : Configuration) → P r → P (do_next d s r)
   next_placed d (Within b x) r h = set d _ r h
   next_placed d s r h = h
 
@@ -129,7 +129,7 @@ module _ (P : Configuration → Type 0) (f : IsFrame P) (set : (c : ℕ) (v : Cu
   make_placed c None r h = h
   make_placed c (Some b) r h = new_placed c b r h
 
-  read_placed : (given : Option (List ℕ)) (s : Place) (r : Configuration) → P r → P (do_read given s r)
+  read_placed : (given : Option (List ℕ)) (s : CursorPlace) (r : Configuration) → P r → P (do_read given s r)
   read_placed given (Within b x) r h = by_given (read_given given x.bucket.content) where
     by_given : (o : Option (List ℕ)) → P (read_within b x o r)
     by_given None = set read_cursor _ r h

@@ -14,7 +14,7 @@ use Rattle.run_model.specs.declared.bucket.BrigadeVar.TheVariants as var
 use Rattle.run_model.specs.Cutting.{read_limit, read_of, wanted}
 use Rattle.run_model.specs.State.{Configuration, items_of, set_brigade, set_cursor}
 use Rattle.run_model.specs.BrigadeLists.{buckets_before, buckets_from, first_bucket, bucket_named, bytes_of, all_bytes}
-use Rattle.run_model.specs.Cursors.{Place, Within}
+use Rattle.run_model.specs.Cursors.{CursorPlace, Within}
 use Rattle.run_model.specs.BucketSteps.{items_at, read_given, rest_named, first_read, bucket_read, is_unread, do_read, read_within}
 use Rattle.run_model.specs.Steps.{Outcome, jumps_if, with_items}
 use Rattle.model_laws.specs.Laws.{bytes_of_rest}
@@ -83,7 +83,7 @@ filled_with var.Gone x items is = absurd (cc)
 filled_with (var.Live v) x items is = refl
 
 -- what the step makes of the place at which its cursor stands
-abbrev read_outcome : Option (List ℕ) → Place → Configuration → Outcome
+abbrev read_outcome : Option (List ℕ) → CursorPlace → Configuration → Outcome
 read_outcome given s r = record { exit = jumps_if (is_unread given s); state = do_read given s r }
 
 read_within_on : (given : Option (List ℕ)) (file : ℕ → List ℕ) (b : ℕ) (x : NamedBucket) (r : Configuration) → StandsThere r (Within b x)
@@ -104,4 +104,4 @@ read_within_on given file b x r there told =
 pub step_read_gives_the_file : StepReadGivesTheFile
 step_read_gives_the_file p choice file c l b x r is told =
     let there : StandsThere r (Within b x) = subst (StandsThere r) is (stands r (r.call.cursors c)) in
-    subst (λ (t : Place). ReadsOn file b r (read_outcome choice.given t r)) (sym is) (read_within_on choice.given file b x r there (content_given choice.given file x.bucket.content told))
+    subst (λ (t : CursorPlace). ReadsOn file b r (read_outcome choice.given t r)) (sym is) (read_within_on choice.given file b x r there (content_given choice.given file x.bucket.content told))

@@ -13,7 +13,7 @@ use Rattle.run_model.specs.Clearing.{run_down}
 use Rattle.run_model.specs.State.{Configuration, items_of, set_brigade, set_loose, set_cursor, set_number, set_pool, with_pools, pool_named}
 use Rattle.run_model.specs.BrigadeLists.{buckets_from, bucket_named, taken_out, first_place, next_place, stays, partition_answer, partitioned, place_of, place_before, front_to, back_from, is_short}
 use Rattle.run_model.specs.BrigadeLists.{Incomplete}
-use Rattle.run_model.specs.Cursors.{Place, Within, at_cursor, read_cursor}
+use Rattle.run_model.specs.Cursors.{CursorPlace, Within, at_cursor, read_cursor}
 use Rattle.run_model.specs.BucketSteps.{items_at, cursor_at, set_place, set_items, do_first, do_next, names_given, new_loose, do_make, read_given, read_within, do_read, names_to_part, do_bpart}
 use Rattle.run_model.specs.declared.effect.Effect.{Effect}
 use Rattle.run_model.specs.declared.effect.Effect.TheVariants as effect
@@ -115,7 +115,7 @@ new_held c b r s = set_held c (cursor.At r.shared.next) _ (λ n e. (let is : r.s
 first_held : (c b : ℕ) (r : Configuration) → SoundNames r → SoundCursors r → SoundCursors (do_first c b r)
 first_held c b r names s = place_held c b (first_place (items_at r b)) r (λ k is. given_out b k r names (first_there k (items_at r b) is)) (names.given b) s
 
-next_held : (d : ℕ) (at : Place) (r : Configuration) → SoundNames r → SoundCursors r → SoundCursors (do_next d at r)
+next_held : (d : ℕ) (at : CursorPlace) (r : Configuration) → SoundNames r → SoundCursors r → SoundCursors (do_next d at r)
 next_held d (Within b x) r names s = place_held d b (next_place x.name (items_at r b)) r (λ k is. given_out b k r names (next_there x.name k (items_at r b) is)) (names.given b) s
 next_held d at r names s = s
 
@@ -123,7 +123,7 @@ make_held : (c : ℕ) (o : Option Bucket) (r : Configuration) → SoundCursors r
 make_held c None r s = s
 make_held c (Some b) r s = new_held c b r s
 
-read_held : (given : Option (List ℕ)) (at : Place) (r : Configuration) → StandsThere r at → SoundNames r → SoundCursors r → SoundCursors (do_read given at r)
+read_held : (given : Option (List ℕ)) (at : CursorPlace) (r : Configuration) → StandsThere r at → SoundNames r → SoundCursors r → SoundCursors (do_read given at r)
 unfolding set_brigade
 read_held given (Within b x) r there names s = by_given (read_given given x.bucket.content) where
   lt : x.name < r.shared.next

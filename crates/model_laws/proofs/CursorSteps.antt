@@ -17,7 +17,7 @@ use Rattle.run_model.specs.BrigadeLists.{bucket_split, length_in, all_bytes, Cut
 use Rattle.model_laws.specs.BrigadeLaws.{may_split, SameBytes, PartedAt, SplitsThere}
 use Rattle.run_model.specs.Cutting.{length_of}
 use Rattle.run_model.specs.Effects.{with_items}
-use Rattle.run_model.specs.Cursors.{Place, Nowhere, AtLoose, Within, AtEndOf, found_below, holder_of, place_of_loose, place_of_bucket, place_of_cursor, at_cursor}
+use Rattle.run_model.specs.Cursors.{CursorPlace, Nowhere, AtLoose, Within, AtEndOf, found_below, holder_of, place_of_loose, place_of_bucket, place_of_cursor, at_cursor}
 use Rattle.run_model.specs.BucketSteps.{items_at, cursor_at, end_called, set_items, name_given, names_given, new_loose, do_make, is_unsplit, split_there, do_split, place_at, is_incomplete, names_if}
 use Rattle.run_model.specs.BucketSteps.{names_to_part, do_bsplit, do_bpart}
 use Rattle.run_model.specs.declared.effect.Effect.{Effect}
@@ -105,7 +105,7 @@ split_shape new n x bs is = of_first (buckets_from x.name bs) is where
   of_first [] is = absurd (cc)
   of_first (y ∷ ys) is = (let same : y ≡ x = cc in ap (λ (z : NamedBucket). buckets_before x.name bs ++ first_bytes n z ∷ rest_as new n z ∷ ys) same)
 
-abbrev splitting : ℕ → Place → Configuration → Outcome
+abbrev splitting : ℕ → CursorPlace → Configuration → Outcome
 splitting n s r = record { exit = jumps_if (is_unsplit n s); state = do_split n s r }
 
 splits_bucket : (n b : ℕ) (x : NamedBucket) (r : Configuration) → SoundNames r → StandsThere r (Within b x) → split_refusal n x ≡ None → SplitsBucket n b x r (splitting n (Within b x) r)
@@ -132,17 +132,17 @@ splits_bucket n b x r s at may = by_refusal (split_refusal n x) may where
 
 pub splits_in_order : SplitsInOrder
 splits_in_order p choice c n l b x r s is may =
-    subst (λ (at : Place). SplitsBucket (value_of r n) b x r (splitting (value_of r n) at r)) (sym is)
+    subst (λ (at : CursorPlace). SplitsBucket (value_of r n) b x r (splitting (value_of r n) at r)) (sym is)
     (splits_bucket (value_of r n) b x r s (subst (StandsThere r) is (stands r (r.call.cursors c))) may)
 
 pub refused_split_jumps : RefusedSplitJumps
 refused_split_jumps p choice c n l b x k r is refused =
-    ap (λ (at : Place). splitting (value_of r n) at r) is
+    ap (λ (at : CursorPlace). splitting (value_of r n) at r) is
     ∙ ap (λ (o : Option SplitRefusal). record { exit = jumps_if (is_some o); state = cond (is_some o) r (split_there (value_of r n) (Within b x) r) }) refused
 
 -- Splits of a brigade.
 
-cut_brigade : (b a : ℕ) (place : Place) (r : Configuration) → b ≢ a → IsThere (r.instance.brigades b) → IsThere (r.instance.brigades a)
+cut_brigade : (b a : ℕ) (place : CursorPlace) (r : Configuration) → b ≢ a → IsThere (r.instance.brigades b) → IsThere (r.instance.brigades a)
     → (items_at (do_bsplit b place a r) b ≡ stays (place_at place) (items_at r b)) × (items_at (do_bsplit b place a r) a ≡ moves (place_at place) (items_at r b))
 unfolding set_brigade
 cut_brigade b a place r ne first second =
@@ -170,7 +170,7 @@ brigades_split_in_order p choice b c a r may =
 -- Partitions.
 
 -- a cursor stands at this place in a brigade
-record IsPlacedIn (b : ℕ) (place : Option ℕ) (at : Place) : Type 0 where
+record IsPlacedIn (b : ℕ) (place : Option ℕ) (at : CursorPlace) : Type 0 where
   there : place_at at ≡ place
   inside : IsPlaceIn b at
 
@@ -180,7 +180,7 @@ stands_in b n r s there = of_place (place_of_cursor r (cursor.At n)) (cursors_st
   same : (k : ℕ) → (b ≢ k → count_named n (items_at r b) ≡ 0) → k ≡ b
   same k others = elim (cases_eq b k) [ inl e ↦ sym e | inr ne ↦ absurd (omega (arith, others ne, there)) ]
 
-  of_place : (at : Place) → BucketOnce r n at → IsPlacedIn b (Some n) at
+  of_place : (at : CursorPlace) → BucketOnce r n at → IsPlacedIn b (Some n) at
   of_place Nowhere none = absurd (omega (arith, none, in_brigade b n r s, there))
   of_place (AtLoose x) once = absurd (omega (arith, once.brigades b, there))
   of_place (Within k x) once = record { there = ap (λ (m : ℕ). Some m) once.name; inside = same k (once.others b) }
@@ -189,7 +189,7 @@ stands_in b n r s there = of_place (place_of_cursor r (cursor.At n)) (cursors_st
 -- and one at its end stands at that
 pub stands_behind : (b n : ℕ) (r : Configuration) → SoundNames r → brigade_name (r.instance.brigades b) ≡ Some n → place_of_cursor r (cursor.End n) ≡ AtEndOf b
 stands_behind b n r s named = of_place (place_of_cursor r (cursor.End n)) (cursors_stand_once r (cursor.End n) s) where
-  of_place : (at : Place) → BrigadeOnce r n at → at ≡ AtEndOf b
+  of_place : (at : CursorPlace) → BrigadeOnce r n at → at ≡ AtEndOf b
   of_place Nowhere none = absurd (none b named)
   of_place (AtLoose x) once = absurd once
   of_place (Within k x) once = absurd once

@@ -10,7 +10,7 @@ use Rattle.run_model.specs.declared.bucket.NamedBucket.{NamedBucket}
 use Rattle.run_model.specs.declared.payload.Payload.{Payload}
 use Rattle.run_model.specs.Buckets.{cleared_bucket, returned_bucket}
 use Rattle.run_model.specs.Clearing.{run_down}
-use Rattle.run_model.specs.Cursors.{Place, Nowhere, AtLoose, Within, AtEndOf, at_cursor}
+use Rattle.run_model.specs.Cursors.{CursorPlace, Nowhere, AtLoose, Within, AtEndOf, at_cursor}
 use Rattle.run_model.specs.BucketSteps.{items_at, changed_at, aside_into, heap_bucket, read_given}
 use Rattle.run_model.specs.EffectOf.{effect_of}
 use Rattle.run_model.specs.Pools.{Pools, is_under}
@@ -50,7 +50,7 @@ module _ (T : NamedBucket → Type 0) (r : Configuration) (h : HoldsNamed T r) w
   aside_list : KeepsAside → (target n : ℕ) (xs : List NamedBucket) → All T xs → All T (changed_at n (aside_named r.shared.pools target) xs)
   aside_list keeps target n xs all = each_changed T T n (aside_named r.shared.pools target) xs (λ y t. t) (λ k d lt. λ same t. keeps r.shared.pools target _ t) all
 
-  aside_holds : KeepsAside → (target : ℕ) (s : Place) → HoldsNamed T (aside_into s target r)
+  aside_holds : KeepsAside → (target : ℕ) (s : CursorPlace) → HoldsNamed T (aside_into s target r)
   unfolding set_brigade set_loose with_pools
   aside_holds keeps target Nowhere = h
   aside_holds keeps target (AtLoose x) = record { brigades = h.brigades; loose = aside_list keeps target x.name r.call.loose h.loose }

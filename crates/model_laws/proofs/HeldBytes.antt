@@ -13,7 +13,7 @@ use Rattle.run_model.specs.declared.event.Piece.{Piece}
 use Rattle.run_model.specs.declared.event.Piece.TheVariants as piece
 use Rattle.run_model.specs.Cutting.{front_of, rest_of}
 use Rattle.run_model.specs.State.{Configuration}
-use Rattle.run_model.specs.Cursors.{Place, Nowhere, AtEndOf, at_cursor}
+use Rattle.run_model.specs.Cursors.{CursorPlace, Nowhere, AtEndOf, at_cursor}
 use Rattle.run_model.specs.BucketSteps.{content_at, first_of, byte_of, read_given}
 use Rattle.run_model.specs.Steps.{Choice, step, text_of}
 use Rattle.run_model.specs.Pieces.{bucket_of, named_from}
@@ -74,7 +74,7 @@ step_holds p choice i r m gives buffer h = step_contents HoldsBytes p choice i r
 
 -- Bytes that are asked for.
 
-place_bytes : (r : Configuration) (s : Place) → StandsThere r s → Holds OfBytes r → HoldsBytes (content_at s)
+place_bytes : (r : Configuration) (s : CursorPlace) → StandsThere r s → Holds OfBytes r → HoldsBytes (content_at s)
 place_bytes r Nowhere there h = tt
 place_bytes r (AtEndOf b) there h = tt
 place_bytes r s there h = held_at OfNamed r h s there

@@ -8,7 +8,7 @@ use Rattle.run_model.specs.declared.bucket.NamedBucket.{NamedBucket}
 use Rattle.run_model.specs.BrigadeLists.{buckets_from, bucket_named}
 use Rattle.run_model.specs.Sound.{brigade_name}
 use Rattle.run_model.specs.State.{Configuration, items_of, set_brigade}
-use Rattle.run_model.specs.Cursors.{Place, Nowhere, AtLoose, Within, AtEndOf, at_cursor}
+use Rattle.run_model.specs.Cursors.{CursorPlace, Nowhere, AtLoose, Within, AtEndOf, at_cursor}
 use Rattle.run_model.specs.Faults.{Want, WUsable, WCursor, Need, wants, brigade_fault, usable_fault, passed_fault, cursor_fault, fault_want, first_fault, or_else}
 use Rattle.run_model.specs.Steps.{do_pass, cleaned, handed_over}
 use Rattle.model_laws.specs.Marks.{is_at, wants_use, UseAfterPassFaults, CleanedIsUsable}
@@ -47,7 +47,7 @@ called n var.Gone h = absurd (cc)
 called n (var.Live v) h = tt
 
 -- what a cursor stands at, or at the end of, is a brigade
-at_brigade : (r : Configuration) (k : ℕ) (s : Place) → StandsThere r s → is_at s k ≡ true → IsThere (r.instance.brigades k)
+at_brigade : (r : Configuration) (k : ℕ) (s : CursorPlace) → StandsThere r s → is_at s k ≡ true → IsThere (r.instance.brigades k)
 at_brigade r k Nowhere there h = absurd (cc)
 at_brigade r k (AtLoose x) there h = absurd (cc)
 at_brigade r k (Within b x) there h = subst (λ (j : ℕ). IsThere (r.instance.brigades j)) (sym (eqb-true k b h)) (filled x.name x (r.instance.brigades b) there.1)
@@ -59,7 +59,7 @@ there_none var.Null there none = absurd there
 there_none var.Gone there none = absurd there
 there_none (var.Live v) there none = none
 
-cursor_unmet : (r : Configuration) (f : Need) (k : ℕ) (s : Place) → IsThere (r.instance.brigades k) → (usable_fault (r.instance.brigades k) ≡ None → ⊥) → is_at s k ≡ true
+cursor_unmet : (r : Configuration) (f : Need) (k : ℕ) (s : CursorPlace) → IsThere (r.instance.brigades k) → (usable_fault (r.instance.brigades k) ≡ None → ⊥) → is_at s k ≡ true
     → cursor_fault r f s ≡ None → ⊥
 unfolding cursor_fault
 cursor_unmet r f k Nowhere there no_use h none = cc

@@ -19,7 +19,7 @@ use Rattle.run_model.specs.Cutting.{FitsKind, EndsInFile, length_of, front_of, r
 use Rattle.run_model.specs.BrigadeLists.{buckets_before, buckets_from, first_bucket, taken_out, put_head, put_tail, put_before, stays, moves, TooLong, Metadata, split_refusal, first_bytes, rest_as}
 use Rattle.run_model.specs.BrigadeLists.{first_split, front_to, back_from, is_short, partitioned}
 use Rattle.run_model.specs.State.{Configuration, items_of, set_brigade, set_number, set_cursor, set_loose}
-use Rattle.run_model.specs.Cursors.{bucket_at, Place, AtLoose, Within, at_cursor, read_cursor}
+use Rattle.run_model.specs.Cursors.{bucket_at, CursorPlace, AtLoose, Within, at_cursor, read_cursor}
 use Rattle.run_model.specs.BucketSteps.{copied_bucket, items_at, set_items, do_next, do_unlink, do_delete, put_into, do_before, name_given, names_given, names_to_part, new_loose, heap_bucket}
 use Rattle.run_model.specs.BucketSteps.{do_make, split_there, do_split, rest_named, first_read, read_given, read_within, do_read}
 use Rattle.run_model.specs.BucketSteps.{place_at, do_bsplit, do_bpart, got}
@@ -134,12 +134,12 @@ module _ (S : ℕ → Type 0) (T : NamedBucket → Type 0) where
   buffer_holds buffer r h = record { brigades = h.brigades; loose = h.loose }
 
 -- where a place is one in a brigade, S is true of that
-abbrev pub PlaceIn : (ℕ → Type 0) → Place → Type 0
+abbrev pub PlaceIn : (ℕ → Type 0) → CursorPlace → Type 0
 PlaceIn S (Within b x) = S b
 PlaceIn S s = Unit {0}
 
 -- the bucket at which a cursor stands
-pub held_in : (S : ℕ → Type 0) (T : NamedBucket → Type 0) (r : Configuration) → HoldsIn S T r → (s : Place) → PlaceIn S s → StandsThere r s → IfSome (bucket_at s) T
+pub held_in : (S : ℕ → Type 0) (T : NamedBucket → Type 0) (r : Configuration) → HoldsIn S T r → (s : CursorPlace) → PlaceIn S s → StandsThere r s → IfSome (bucket_at s) T
 held_in S T r h (Within b x) in_it there = of_named T x.name x (items_at r b) there.1 (h.brigades b in_it)
 held_in S T r h (AtLoose x) in_it there = of_named T x.name x r.call.loose there h.loose
 held_in S T r h s in_it there = tt
@@ -150,7 +150,7 @@ module _ (S : ℕ → Type 0) (T : NamedBucket → Type 0) (r : Configuration) (
 
   -- Cursors and what stands where.
 
-  next_holds : (d : ℕ) (s : Place) → HoldsIn S T (do_next d s r)
+  next_holds : (d : ℕ) (s : CursorPlace) → HoldsIn S T (do_next d s r)
   next_holds d (Within b x) = cursor_holds S T d _ r h
   next_holds d s = h
 
@@ -164,21 +164,21 @@ module _ (S : ℕ → Type 0) (T : NamedBucket → Type 0) (r : Configuration) (
   taken_loose_holds : (x : NamedBucket) → HoldsIn S T (set_loose (taken_out x.name r.call.loose) r)
   taken_loose_holds x = loose_hold S T _ r (each_taken_out T x.name r.call.loose h.loose) h
 
-  unlink_holds : (s : Place) → PlaceIn S s → StandsThere r s → HoldsIn S T (do_unlink s r)
+  unlink_holds : (s : CursorPlace) → PlaceIn S s → StandsThere r s → HoldsIn S T (do_unlink s r)
   unlink_holds (Within b x) in_it there = loose_hold S T _ _ (each_put_tail T x r.call.loose (held_in S T r h (Within b x) in_it there) h.loose) (taken_holds b x)
   unlink_holds s in_it there = h
 
-  delete_holds : (s : Place) → HoldsIn S T (do_delete s r)
+  delete_holds : (s : CursorPlace) → HoldsIn S T (do_delete s r)
   delete_holds (Within b x) = taken_holds b x
   delete_holds (AtLoose x) = taken_loose_holds x
   delete_holds s = h
 
   put_holds : (insert : NamedBucket → List NamedBucket → List NamedBucket) → ((x : NamedBucket) (bs : List NamedBucket) → T x → All T bs → All T (insert x bs))
-      → (b : ℕ) (s : Place) → StandsThere r s → HoldsIn S T (put_into insert b s r)
+      → (b : ℕ) (s : CursorPlace) → StandsThere r s → HoldsIn S T (put_into insert b s r)
   put_holds insert inserted b (AtLoose x) there = items_hold S T b _ _ (λ s. inserted x (items_at r b) (held_in S T r h (AtLoose x) tt there) (h.brigades b s)) (taken_loose_holds x)
   put_holds insert inserted b s there = h
 
-  before_holds : (s t : Place) → StandsThere r s → HoldsIn S T (do_before s t r)
+  before_holds : (s t : CursorPlace) → StandsThere r s → HoldsIn S T (do_before s t r)
   before_holds s (Within b y) there = put_holds (put_before y.name) (λ x bs new old. each_put_before T y.name x bs new old) b s there
   before_holds s t there = h
 
@@ -216,7 +216,7 @@ module _ (S : ℕ → Type 0) (T : NamedBucket → Type 0) (r : Configuration) (
       items_hold S T b _ _ (λ s. All-append T (buckets_before x.name (items_at r b)) (first_split r.shared.next n (buckets_from x.name (items_at r b))) (each_before T x.name (items_at r b) (h.brigades b s))
       (split_first n x (buckets_from x.name (items_at r b)) there.1 le (each_from T x.name (items_at r b) (h.brigades b s)))) (names_hold S T 1 r h)
 
-  split_holds : (n : ℕ) (s : Place) → StandsThere r s → HoldsIn S T (do_split n s r)
+  split_holds : (n : ℕ) (s : CursorPlace) → StandsThere r s → HoldsIn S T (do_split n s r)
   split_holds n (Within b x) there = by_refusal (is_some (split_refusal n x)) refl where
     by_refusal : (t : Bool) → is_some (split_refusal n x) ≡ t → HoldsIn S T (cond t r (split_there n (Within b x) r))
     by_refusal true is = h
@@ -265,7 +265,7 @@ module _ (S : ℕ → Type 0) (T : NamedBucket → Type 0) (r : Configuration) (
   move_each None bs all = none
   move_each (Some n) bs all = each_from T n bs all
 
-  bsplit_holds : (b : ℕ) (s : Place) (a : ℕ) → S b → HoldsIn S T (do_bsplit b s a r)
+  bsplit_holds : (b : ℕ) (s : CursorPlace) (a : ℕ) → S b → HoldsIn S T (do_bsplit b s a r)
   bsplit_holds b s a in_it =
       items_hold S T a _ _ (λ t. move_each (place_at s) (items_at r b) (h.brigades b in_it)) (items_hold S T b _ r (λ t. stay_each (place_at s) (items_at r b) (h.brigades b in_it)) h)
 
@@ -290,7 +290,7 @@ module _ (S : ℕ → Type 0) (T : NamedBucket → Type 0) (r : Configuration) (
       let parts = read_parts bytes y (made y old) y.bucket.content refl old in
       All-cons T _ _ parts.0 (All-append T _ ys parts.1 (All-tail T y ys all))
 
-  read_holds : (given : Option (List ℕ)) (s : Place) → ((c : Content) (bytes : List ℕ) → read_given given c ≡ Some bytes → (y : NamedBucket) → T y → T (record y { bucket = heap_bucket bytes }))
+  read_holds : (given : Option (List ℕ)) (s : CursorPlace) → ((c : Content) (bytes : List ℕ) → read_given given c ≡ Some bytes → (y : NamedBucket) → T y → T (record y { bucket = heap_bucket bytes }))
       → HoldsIn S T (do_read given s r)
   read_holds given (Within b x) made = by_given (read_given given x.bucket.content) refl where
     by_given : (o : Option (List ℕ)) → read_given given x.bucket.content ≡ o → HoldsIn S T (read_within b x o r)
@@ -358,7 +358,7 @@ module _ (S : ℕ → Type 0) (T : NamedBucket → Type 0) (p : Program) (choice
 abbrev Any : ℕ → Type 0
 Any b = Unit {0}
 
-any_place : (s : Place) → PlaceIn Any s
+any_place : (s : CursorPlace) → PlaceIn Any s
 any_place (Within b x) = tt
 any_place s = tt
 
@@ -368,7 +368,7 @@ any_taken r (effect.Unlink c) = any_place (at_cursor r c)
 any_taken r (effect.Make c (CopyAt d)) = any_place (at_cursor r d)
 any_taken r e = tt
 
-pub held_at : (T : NamedBucket → Type 0) (r : Configuration) → HoldsNamed T r → (s : Place) → StandsThere r s → IfSome (bucket_at s) T
+pub held_at : (T : NamedBucket → Type 0) (r : Configuration) → HoldsNamed T r → (s : CursorPlace) → StandsThere r s → IfSome (bucket_at s) T
 held_at T r h s there = held_in Any T r (record { brigades = λ b any. h.brigades b; loose = h.loose }) s (any_place s) there
 
 pub leaves : (T : NamedBucket → Type 0) (p : Program) (choice : Choice) (r : Configuration) → Descends r.shared.next T

@@ -15,7 +15,7 @@ use Rattle.run_model.specs.Pools.{is_under}
 use Rattle.run_model.specs.Buckets.{cleared_bucket}
 use Rattle.run_model.specs.Clearing.{is_reached, cleared_var, run_down}
 use Rattle.run_model.specs.State.{Configuration, is_passed, set_brigade, with_pools, pool_named}
-use Rattle.run_model.specs.Cursors.{Place, Nowhere, AtLoose, Within, AtEndOf, at_cursor}
+use Rattle.run_model.specs.Cursors.{CursorPlace, Nowhere, AtLoose, Within, AtEndOf, at_cursor}
 use Rattle.run_model.specs.Faults.{Need, Anywhere, OnBucket, OnLoose, InBrigade, InThis, Want, WPool, WUsable, WCursor, wants, usable_fault, passed_fault, loose_fault, within_fault, end_fault}
 use Rattle.run_model.specs.Faults.{cursor_fault, new_fault, fault_want, first_fault, fault, or_else}
 use Rattle.run_model.specs.EffectOf.{effect_of}
@@ -57,7 +57,7 @@ passed_there (var.Live v) h = ap (λ (m : Mark). cond (is_passed m) (Some F7) No
 pub not_usable : (v : BrigadeVar) → HoldsPassed v → usable_fault v ≡ None → ⊥
 not_usable v h none = let is : usable_fault v ≡ Some F7 = passed_told v h in cc
 
-cursor_told : (r : Configuration) (f : Need) (k : ℕ) (s : Place) → HoldsPassed (r.instance.brigades k) → is_at s k ≡ true → cursor_fault r f s ≡ Some F7
+cursor_told : (r : Configuration) (f : Need) (k : ℕ) (s : CursorPlace) → HoldsPassed (r.instance.brigades k) → is_at s k ≡ true → cursor_fault r f s ≡ Some F7
 unfolding cursor_fault
 cursor_told r f k Nowhere h used = absurd (cc)
 cursor_told r f k (AtLoose x) h used = absurd (cc)
@@ -131,7 +131,7 @@ end_told OnLoose b = inr refl
 end_told InBrigade b = inr refl
 end_told (InThis a) b = same_told (b == a)
 
-place_told : (r : Configuration) (f : Need) (s : Place) → MayComeFirst (cursor_fault r f s)
+place_told : (r : Configuration) (f : Need) (s : CursorPlace) → MayComeFirst (cursor_fault r f s)
 unfolding cursor_fault
 place_told r f Nowhere = inr refl
 place_told r f (AtLoose x) = loose_told f
@@ -249,7 +249,7 @@ live_not_new var.Null h none = h
 live_not_new var.Gone h none = h
 live_not_new (var.Live v) h none = cc
 
-within_at : (s : Place) (k : ℕ) → is_within s k ≡ true → is_at s k ≡ true
+within_at : (s : CursorPlace) (k : ℕ) → is_within s k ≡ true → is_at s k ≡ true
 within_at Nowhere k h = h
 within_at (AtLoose x) k h = h
 within_at (Within b x) k h = h

@@ -16,7 +16,7 @@ use Rattle.run_model.specs.BrigadeLists.{split_refusal, bucket_split}
 use Rattle.model_laws.specs.BrigadeLaws.{SameBytes, may_split}
 use Rattle.run_model.specs.State.{Configuration, items_of, set_brigade, set_loose, set_cursor, with_pools}
 use Rattle.run_model.specs.Effects.{with_items, aside_named}
-use Rattle.run_model.specs.Cursors.{Place, AtLoose, Within, read_cursor}
+use Rattle.run_model.specs.Cursors.{CursorPlace, AtLoose, Within, read_cursor}
 use Rattle.run_model.specs.declared.effect.Side.{Side}
 use Rattle.run_model.specs.declared.effect.Side.TheVariants.{AtTail, AtHead}
 use Rattle.run_model.specs.Steps.{put_at}
@@ -102,19 +102,19 @@ slot_taken n b x r at =
     (taken_out x.name (items_at r b)) = slot_counts b (taken_out x.name (items_at r b)) r n at.0 in
     omega (arith, slot, taken_counts n x (items_at r b) at.1)
 
-pub unlink_names : (s : Place) (r : Configuration) → StandsThere r s → r.shared.next < 2 ^ 64 → NamesStep r (do_unlink s r)
+pub unlink_names : (s : CursorPlace) (r : Configuration) → StandsThere r s → r.shared.next < 2 ^ 64 → NamesStep r (do_unlink s r)
 unfolding set_brigade set_loose
 unlink_names (Within b x) r at limit =
     rising_names r _ (slot_carried b (taken_out x.name (items_at r b)) r) (omega arith) limit (λ n. no_more _ _ n _ _ (omega (arith, slot_taken n b x r at, tail_counts x r.call.loose n)))
 unlink_names s r at limit = rising_names r r (all_carried r) (omega arith) limit (λ n. no_more _ _ n _ _ (omega arith))
 
-pub delete_names : (s : Place) (r : Configuration) → StandsThere r s → r.shared.next < 2 ^ 64 → NamesStep r (do_delete s r)
+pub delete_names : (s : CursorPlace) (r : Configuration) → StandsThere r s → r.shared.next < 2 ^ 64 → NamesStep r (do_delete s r)
 unfolding set_brigade set_loose
 delete_names (Within b x) r at limit = rising_names r _ (slot_carried b (taken_out x.name (items_at r b)) r) (omega arith) limit (λ n. no_more _ _ n _ _ (omega (arith, slot_taken n b x r at)))
 delete_names (AtLoose x) r at limit = rising_names r _ (all_carried r) (omega arith) limit (λ n. no_more _ _ n _ _ (omega (arith, taken_counts n x r.call.loose at)))
 delete_names s r at limit = rising_names r r (all_carried r) (omega arith) limit (λ n. no_more _ _ n _ _ (omega arith))
 
-put_names : (insert : NamedBucket → List NamedBucket → List NamedBucket) (b : ℕ) (s : Place) (r : Configuration) → AddsOne insert → b < 9 → StandsThere r s → r.shared.next < 2 ^ 64
+put_names : (insert : NamedBucket → List NamedBucket → List NamedBucket) (b : ℕ) (s : CursorPlace) (r : Configuration) → AddsOne insert → b < 9 → StandsThere r s → r.shared.next < 2 ^ 64
     → NamesStep r (put_into insert b s r)
 unfolding set_brigade set_loose
 put_names insert b (AtLoose x) r adds lt at limit =
@@ -127,17 +127,17 @@ put_names insert b (AtLoose x) r adds lt at limit =
           omega (arith, slot, taken_counts n x r.call.loose at, adds x (items_at r b) n)
 put_names insert b s r adds lt at limit = rising_names r r (all_carried r) (omega arith) limit (λ n. no_more _ _ n _ _ (omega arith))
 
-pub insert_names : (side : Side) (b : ℕ) (s : Place) (r : Configuration) → b < 9 → StandsThere r s → r.shared.next < 2 ^ 64 → NamesStep r (put_into (put_at side) b s r)
+pub insert_names : (side : Side) (b : ℕ) (s : CursorPlace) (r : Configuration) → b < 9 → StandsThere r s → r.shared.next < 2 ^ 64 → NamesStep r (put_into (put_at side) b s r)
 insert_names AtTail b s r lt at limit = put_names put_tail b s r tail_counts lt at limit
 insert_names AtHead b s r lt at limit = put_names put_head b s r head_counts lt at limit
 
-pub before_names : (s t : Place) (r : Configuration) → StandsThere r s → StandsThere r t → r.shared.next < 2 ^ 64 → NamesStep r (do_before s t r)
+pub before_names : (s t : CursorPlace) (r : Configuration) → StandsThere r s → StandsThere r t → r.shared.next < 2 ^ 64 → NamesStep r (do_before s t r)
 before_names s (Within b y) r at there limit = put_names (put_before y.name) b s r (before_counts y.name) there.0 at limit
 before_names s t r at there limit = rising_names r r (all_carried r) (omega arith) limit (λ n. no_more _ _ n _ _ (omega arith))
 
 -- Brigades that are cut.
 
-pub bsplit_names : (b : ℕ) (place : Place) (a : ℕ) (r : Configuration) → b < 9 → a < 9 → r.shared.next < 2 ^ 64 → NamesStep r (do_bsplit b place a r)
+pub bsplit_names : (b : ℕ) (place : CursorPlace) (a : ℕ) (r : Configuration) → b < 9 → a < 9 → r.shared.next < 2 ^ 64 → NamesStep r (do_bsplit b place a r)
 unfolding set_brigade
 bsplit_names b place a r lt below limit = rising_names r _ carried (omega arith) limit (λ n. no_more _ _ n _ _ (fewer n)) where
   carried : (k : ℕ) → Carried (r.instance.brigades k) ((do_bsplit b place a r).instance.brigades k)
@@ -194,7 +194,7 @@ bpart_names b point c r lt limit =
 
 -- Buckets that are split, read, set aside and made.
 
-pub split_names : (n : ℕ) (s : Place) (r : Configuration) → StandsThere r s → r.shared.next + names_to_split n s < 2 ^ 64 → NamesStep r (do_split n s r)
+pub split_names : (n : ℕ) (s : CursorPlace) (r : Configuration) → StandsThere r s → r.shared.next + names_to_split n s < 2 ^ 64 → NamesStep r (do_split n s r)
 unfolding set_brigade
 split_names n (Within b x) r at limit = by_refusal (split_refusal n x) refl limit where
   by_refusal : (o : Option SplitRefusal) → split_refusal n x ≡ o → r.shared.next + cond (is_some o) 0 1 < 2 ^ 64 → NamesStep r (cond (is_some o) r (split_there n (Within b x) r))
@@ -256,7 +256,7 @@ read_counts new n bytes x bs is = omega (
         count_cons n y ys,
       )
 
-pub read_names : (given : Option (List ℕ)) (s : Place) (r : Configuration) → StandsThere r s → r.shared.next + names_to_read s < 2 ^ 64 → NamesStep r (do_read given s r)
+pub read_names : (given : Option (List ℕ)) (s : CursorPlace) (r : Configuration) → StandsThere r s → r.shared.next + names_to_read s < 2 ^ 64 → NamesStep r (do_read given s r)
 read_names given (Within b x) r at limit = by_given (read_given given x.bucket.content) where
   rises : (bytes : List ℕ) (n : ℕ)
       → CountRises r.shared.next (r.shared.next + names_if (has_rest x.bucket.content)) n (count_named n (items_at r b)) (count_named n (bucket_read r.shared.next x.name bytes (items_at r b)))
@@ -304,7 +304,7 @@ changed_counts at n change same bs = count_map n (λ b. cond (b.name == at) (cha
   by_name b true = same b
   by_name b false = refl
 
-pub aside_names : (s : Place) (target : ℕ) (r : Configuration) → StandsThere r s → r.shared.next < 2 ^ 64 → NamesStep r (aside_into s target r)
+pub aside_names : (s : CursorPlace) (target : ℕ) (r : Configuration) → StandsThere r s → r.shared.next < 2 ^ 64 → NamesStep r (aside_into s target r)
 unfolding set_brigade set_loose with_pools
 aside_names (Within b x) target r at limit =
     rising_names r _ (slot_carried b (changed_at x.name (aside_named r.shared.pools target) (items_at r b)) r) (omega arith) limit (λ n. no_more _ _ n _ _ (fewer n)) where

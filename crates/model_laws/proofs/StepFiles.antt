@@ -38,7 +38,7 @@ use Rattle.run_model.specs.Steps.{label_killed, text_of, is_above, aside_named, 
 use Rattle.run_model.specs.Pieces.{has_range}
 use Rattle.run_model.specs.Sound.{SoundPools, SoundBuckets, Sound, count_named}
 use Rattle.run_model.specs.BrigadeLists.{bucket_named}
-use Rattle.run_model.specs.Cursors.{Place, Nowhere, AtLoose, Within, AtEndOf, bucket_at, at_cursor}
+use Rattle.run_model.specs.Cursors.{CursorPlace, Nowhere, AtLoose, Within, AtEndOf, bucket_at, at_cursor}
 use Rattle.run_model.specs.BucketSteps.{items_at, changed_at, aside_into}
 use Rattle.model_laws.specs.Laws.{changes_pools, is_clear, ChangesOnly, HasReference, SoundFiles, StepKeepsFiles}
 use Rattle.run_model.specs.Holding.{refers}
@@ -355,7 +355,7 @@ aside_refs ps target x Q each fit live held p file h = elim (all_back target (fi
       (All-cons (HasReference ps) x [] held (none (HasReference ps))) asked
 ]
 
-aside_files : (files : List (ℕ × ℕ)) (s : Place) (target : ℕ) (r : Configuration) → StandsThere r s → home_fault (bucket_at s) ≡ None → Sound r → SoundFiles files r
+aside_files : (files : List (ℕ × ℕ)) (s : CursorPlace) (target : ℕ) (r : Configuration) → StandsThere r s → home_fault (bucket_at s) ≡ None → Sound r → SoundFiles files r
     → SoundFiles files (aside_into s target r)
 unfolding set_brigade set_loose with_pools
 aside_files files Nowhere target r there live sound held = held

@@ -14,7 +14,7 @@ use Rattle.run_model.specs.declared.payload.Payload.{Payload}
 use Rattle.run_model.specs.Pools.{Pools, is_under, created}
 use Rattle.run_model.specs.State.{Configuration, items_of, set_pool, with_pools, set_brigade, set_number, pool_named}
 use Rattle.run_model.specs.Clearing.{run_down}
-use Rattle.run_model.specs.Cursors.{Place, Within, at_cursor}
+use Rattle.run_model.specs.Cursors.{CursorPlace, Within, at_cursor}
 use Rattle.run_model.specs.BucketSteps.{do_next, aside_into, got}
 use Rattle.run_model.specs.declared.effect.Effect.{Effect}
 use Rattle.run_model.specs.declared.effect.Effect.TheVariants as effect
@@ -125,7 +125,7 @@ emptied_names : (left : Pools Payload) (n : ℕ) (r : Configuration) → r.share
 unfolding run_down with_pools
 emptied_names left n r limit = went_names (is_under r.shared.pools n) r (pool_emptied left n r) (λ b. refl) refl refl limit
 
-next_names : (d : ℕ) (s : Place) (r : Configuration) → r.shared.next < 2 ^ 64 → NamesStep r (do_next d s r)
+next_names : (d : ℕ) (s : CursorPlace) (r : Configuration) → r.shared.next < 2 ^ 64 → NamesStep r (do_next d s r)
 next_names d (Within b x) r limit = cursor_names d _ r r (same_slots r r refl refl refl limit)
 next_names d s r limit = same_slots r r refl refl refl limit
 

@@ -24,7 +24,7 @@ use Rattle.run_model.specs.Faults.{has_pool_at, has_pool, is_live_named, or_else
 use Rattle.run_model.specs.Steps.{do_create, do_clean, do_concat, do_pass, do_return, do_pcreate, label_registered, label_killed, text_of, new_ref, all_referred, saved_into, made_on, names_of}
 use Rattle.run_model.specs.Steps.{pool_names_of, is_spent, lacks_names}
 use Rattle.run_model.specs.Sound.{brigade_pool, SoundPools}
-use Rattle.run_model.specs.Cursors.{Place, Nowhere, AtLoose, Within, AtEndOf}
+use Rattle.run_model.specs.Cursors.{CursorPlace, Nowhere, AtLoose, Within, AtEndOf}
 use Rattle.run_model.specs.BucketSteps.{aside_into}
 use Rattle.model_laws.specs.Laws.{StepKeepsPools}
 use Rattle.run_model.proofs.Updates.{upd_either}
@@ -104,14 +104,14 @@ referred_formed target (file ∷ files) ps lives f =
     referred_formed target files (registered target (FileRef file) ps) (still_live target target (FileRef file) ps lives) (registered_formed target (FileRef file) ps lives f)
 
 -- setting aside registers these, if any
-pub aside_pools : (s : Place) (target : ℕ) (r : Configuration) → (files : List ℕ) × ((aside_into s target r).shared.pools ≡ all_referred target files r.shared.pools)
+pub aside_pools : (s : CursorPlace) (target : ℕ) (r : Configuration) → (files : List ℕ) × ((aside_into s target r).shared.pools ≡ all_referred target files r.shared.pools)
 unfolding set_brigade set_loose with_pools all_referred
 aside_pools Nowhere target r = ([], refl)
 aside_pools (AtLoose x) target r = (filter_map (new_ref r.shared.pools target) (x ∷ []), refl)
 aside_pools (Within b x) target r = (filter_map (new_ref r.shared.pools target) (x ∷ []), refl)
 aside_pools (AtEndOf b) target r = ([], refl)
 
-pub aside_path : (s : Place) (target : ℕ) (r : Configuration) → (aside_into s target r).shared.pools.path ≡ r.shared.pools.path
+pub aside_path : (s : CursorPlace) (target : ℕ) (r : Configuration) → (aside_into s target r).shared.pools.path ≡ r.shared.pools.path
 aside_path s target r = (let left = aside_pools s target r in ap (λ (ps : Pools Payload). ps.path) left.1 ∙ referred_path target left.0 r.shared.pools)
 
 save_pools : (o b target : ℕ) (r : Configuration) → made_on (r.instance.brigades o) ≡ Some target → SoundPools r → SoundPools (saved_into o b target r)

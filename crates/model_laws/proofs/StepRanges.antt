@@ -29,7 +29,7 @@ use Rattle.run_model.specs.Steps.{do_create, do_clean, do_concat, do_pass, do_re
 use Rattle.run_model.specs.Pieces.{has_range}
 use Rattle.run_model.specs.Sound.{SoundPools, SoundBuckets, Sound, count_named}
 use Rattle.run_model.specs.BrigadeLists.{bucket_named}
-use Rattle.run_model.specs.Cursors.{Place, Nowhere, AtLoose, Within, AtEndOf, bucket_at, at_cursor}
+use Rattle.run_model.specs.Cursors.{CursorPlace, Nowhere, AtLoose, Within, AtEndOf, bucket_at, at_cursor}
 use Rattle.run_model.specs.BucketSteps.{items_at, changed_at, aside_into}
 use Rattle.run_model.specs.Cutting.{FitsKind, LivesAs, length_of, OpenFile, form_of, form_of_kind}
 use Rattle.model_laws.specs.Laws.{changes_pools, is_clear, ChangesOnly, HasReference, KeptAside, SoundFiles}
@@ -217,7 +217,7 @@ aside_lie_in fs ps target x xs there once proper live h =
     each_changed (LiesInFile fs) (LiesInFile fs) x.name (aside_named ps target) xs (λ y e. e)
     (λ k d lt. λ same e. subst (λ (y : NamedBucket). LiesInFile fs (aside_named ps target y)) (sym (only_one x.name x xs there once k d lt same)) lies) h
 
-aside_ranges : (files : List (ℕ × ℕ)) (s : Place) (target : ℕ) (r : Configuration) → StandsThere r s → home_fault (bucket_at s) ≡ None → Sound r → SoundFiles files r → SoundRanges files r
+aside_ranges : (files : List (ℕ × ℕ)) (s : CursorPlace) (target : ℕ) (r : Configuration) → StandsThere r s → home_fault (bucket_at s) ≡ None → Sound r → SoundFiles files r → SoundRanges files r
     → SoundRanges files (aside_into s target r)
 unfolding set_brigade set_loose with_pools
 aside_ranges files Nowhere target r there live sound held s = s

@@ -11,7 +11,7 @@ use Rattle.run_model.specs.declared.payload.Payload.{Payload}
 use Rattle.run_model.specs.Pools.{Pools}
 use Rattle.run_model.specs.State.{Configuration, set_pool, with_pools, set_brigade, set_number, set_cursor, set_loose, pool_named}
 use Rattle.run_model.specs.Clearing.{run_down}
-use Rattle.run_model.specs.Cursors.{Place, Nowhere, AtLoose, Within, AtEndOf, at_cursor, read_cursor}
+use Rattle.run_model.specs.Cursors.{CursorPlace, Nowhere, AtLoose, Within, AtEndOf, at_cursor, read_cursor}
 use Rattle.run_model.specs.BrigadeLists.{put_before}
 use Rattle.run_model.specs.BucketSteps.{aside_into, do_make, do_before, do_delete, do_next, do_read, do_split, do_unlink, got, has_rest, is_unsplit, items_at, name_given, names_given, names_if}
 use Rattle.run_model.specs.BucketSteps.{names_to_part, names_to_read, names_to_split, new_loose, put_into, read_given, read_within, split_there}
@@ -298,33 +298,33 @@ passed_changes b r = record {
 new_changes : (e : Effect) (r : Configuration) (c : ℕ) (b : Bucket) → 1 ≤ names_for r e → may_change_cursor e c ≡ true → may_change_loose r e ≡ true → ChangesOnly e r (new_loose c b r)
 new_changes e r c b name cursor loose = by_cursor e r _ c _ cursor (by_loose e r (name_given r) _ loose (by_names e 1 r name))
 
-next_changes : (e : Effect) (r : Configuration) (d : ℕ) (s : Place) → may_change_cursor e d ≡ true → ChangesOnly e r (do_next d s r)
+next_changes : (e : Effect) (r : Configuration) (d : ℕ) (s : CursorPlace) → may_change_cursor e d ≡ true → ChangesOnly e r (do_next d s r)
 next_changes e r d Nowhere may = nothing e r
 next_changes e r d (AtLoose x) may = nothing e r
 next_changes e r d (Within b x) may = by_cursor e r r d _ may (nothing e r)
 next_changes e r d (AtEndOf b) may = nothing e r
 
-unlink_changes : (e : Effect) (r : Configuration) (s : Place) → ((k : ℕ) → is_within s k ≡ true → may_change r e k ≡ true) → may_change_loose r e ≡ true → ChangesOnly e r (do_unlink s r)
+unlink_changes : (e : Effect) (r : Configuration) (s : CursorPlace) → ((k : ℕ) → is_within s k ≡ true → may_change r e k ≡ true) → may_change_loose r e ≡ true → ChangesOnly e r (do_unlink s r)
 unlink_changes e r Nowhere within loose = nothing e r
 unlink_changes e r (AtLoose x) within loose = nothing e r
 unlink_changes e r (Within b x) within loose = by_loose e r _ _ loose (by_brigade e r r b _ (within b (itself b)) (nothing e r))
 unlink_changes e r (AtEndOf b) within loose = nothing e r
 
-delete_changes : (e : Effect) (r : Configuration) (s : Place) → ((k : ℕ) → is_within s k ≡ true → may_change r e k ≡ true) → (is_loose s ≡ true → may_change_loose r e ≡ true)
+delete_changes : (e : Effect) (r : Configuration) (s : CursorPlace) → ((k : ℕ) → is_within s k ≡ true → may_change r e k ≡ true) → (is_loose s ≡ true → may_change_loose r e ≡ true)
     → ChangesOnly e r (do_delete s r)
 delete_changes e r Nowhere within loose = nothing e r
 delete_changes e r (AtLoose x) within loose = by_loose e r r _ (loose refl) (nothing e r)
 delete_changes e r (Within b x) within loose = by_brigade e r r b _ (within b (itself b)) (nothing e r)
 delete_changes e r (AtEndOf b) within loose = nothing e r
 
-put_into_changes : (e : Effect) (r : Configuration) (insert : NamedBucket → List NamedBucket → List NamedBucket) (b : ℕ) (s : Place) → may_change r e b ≡ true → may_change_loose r e ≡ true
+put_into_changes : (e : Effect) (r : Configuration) (insert : NamedBucket → List NamedBucket → List NamedBucket) (b : ℕ) (s : CursorPlace) → may_change r e b ≡ true → may_change_loose r e ≡ true
     → ChangesOnly e r (put_into insert b s r)
 put_into_changes e r insert b Nowhere may loose = nothing e r
 put_into_changes e r insert b (AtLoose x) may loose = by_brigade e r _ b _ may (by_loose e r r _ loose (nothing e r))
 put_into_changes e r insert b (Within a x) may loose = nothing e r
 put_into_changes e r insert b (AtEndOf a) may loose = nothing e r
 
-before_changes : (e : Effect) (r : Configuration) (s t : Place) → ((k : ℕ) → is_within t k ≡ true → may_change r e k ≡ true) → may_change_loose r e ≡ true → ChangesOnly e r (do_before s t r)
+before_changes : (e : Effect) (r : Configuration) (s t : CursorPlace) → ((k : ℕ) → is_within t k ≡ true → may_change r e k ≡ true) → may_change_loose r e ≡ true → ChangesOnly e r (do_before s t r)
 before_changes e r s Nowhere within loose = nothing e r
 before_changes e r s (AtLoose y) within loose = nothing e r
 before_changes e r s (Within b y) within loose = put_into_changes e r (put_before y.name) b s (within b (itself b)) loose
@@ -334,10 +334,10 @@ make_changes : (e : Effect) (r : Configuration) (c : ℕ) (o : Option Bucket) �
 make_changes e r c None name cursor loose = nothing e r
 make_changes e r c (Some b) name cursor loose = new_changes e r c b name cursor loose
 
-split_changes : (e : Effect) (r : Configuration) (n : ℕ) (s : Place) → ((k : ℕ) → is_within s k ≡ true → may_change r e k ≡ true) → names_to_split n s ≤ names_for r e
+split_changes : (e : Effect) (r : Configuration) (n : ℕ) (s : CursorPlace) → ((k : ℕ) → is_within s k ≡ true → may_change r e k ≡ true) → names_to_split n s ≤ names_for r e
     → ChangesOnly e r (do_split n s r)
 split_changes e r n s within names = by_refusal (is_unsplit n s) names where
-  there : (t : Place) → ((k : ℕ) → is_within t k ≡ true → may_change r e k ≡ true) → 1 ≤ names_for r e → ChangesOnly e r (split_there n t r)
+  there : (t : CursorPlace) → ((k : ℕ) → is_within t k ≡ true → may_change r e k ≡ true) → 1 ≤ names_for r e → ChangesOnly e r (split_there n t r)
   there Nowhere may one = nothing e r
   there (AtLoose x) may one = nothing e r
   there (Within b x) may one = by_brigade e r _ b _ (may b (itself b)) (by_names e 1 r one)
@@ -347,7 +347,7 @@ split_changes e r n s within names = by_refusal (is_unsplit n s) names where
   by_refusal true none = nothing e r
   by_refusal false one = there s within one
 
-aside_changes : (e : Effect) (r : Configuration) (s : Place) (target : ℕ) → ((k : ℕ) → is_within s k ≡ true → may_change r e k ≡ true) → (is_loose s ≡ true → may_change_loose r e ≡ true)
+aside_changes : (e : Effect) (r : Configuration) (s : CursorPlace) (target : ℕ) → ((k : ℕ) → is_within s k ≡ true → may_change r e k ≡ true) → (is_loose s ≡ true → may_change_loose r e ≡ true)
     → may_change_tree e ≡ true
     → ChangesOnly e r (aside_into s target r)
 aside_changes e r Nowhere target within loose tree = nothing e r
@@ -355,7 +355,7 @@ aside_changes e r (AtLoose x) target within loose tree = by_loose e r _ _ (loose
 aside_changes e r (Within b x) target within loose tree = by_brigade e r _ b _ (within b (itself b)) (by_tree e r r _ tree (nothing e r))
 aside_changes e r (AtEndOf b) target within loose tree = nothing e r
 
-read_changes : (e : Effect) (r : Configuration) (given : Option (List ℕ)) (s : Place) → ((k : ℕ) → is_within s k ≡ true → may_change r e k ≡ true) → names_to_read s ≤ names_for r e
+read_changes : (e : Effect) (r : Configuration) (given : Option (List ℕ)) (s : CursorPlace) → ((k : ℕ) → is_within s k ≡ true → may_change r e k ≡ true) → names_to_read s ≤ names_for r e
     → may_change_cursor e read_cursor ≡ true
     → ChangesOnly e r (do_read given s r)
 read_changes e r given Nowhere within names cursor = nothing e r

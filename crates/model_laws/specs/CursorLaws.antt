@@ -12,7 +12,7 @@ use Rattle.run_model.specs.declared.bucket.NamedBucket.{NamedBucket}
 use Rattle.run_model.specs.BrigadeLists.{bucket_named, buckets_before, buckets_from, put_tail, stays, moves, SplitRefusal, split_refusal, first_bytes, rest_as, length_in, all_bytes}
 use Rattle.model_laws.specs.BrigadeLaws.{SplitBytes}
 use Rattle.run_model.specs.State.{Configuration}
-use Rattle.run_model.specs.Cursors.{Place, Nowhere, AtLoose, Within, AtEndOf, at_cursor, place_of_cursor}
+use Rattle.run_model.specs.Cursors.{CursorPlace, Nowhere, AtLoose, Within, AtEndOf, at_cursor, place_of_cursor}
 use Rattle.run_model.specs.BucketSteps.{items_at, place_at}
 use Rattle.run_model.specs.declared.effect.Effect.TheVariants as effect
 use Rattle.run_model.specs.declared.effect.MadeFrom.{MadeFrom}
@@ -56,20 +56,20 @@ pub record EndOnce (r : Configuration) (n b : ℕ) : Type 0 where
   pub others : (k : ℕ) → brigade_name (r.instance.brigades k) ≡ Some n → k ≡ b
 
 -- Where a cursor at the bucket n stands. It stands nowhere only where no list has that bucket.
-abbrev pub BucketOnce : Configuration → ℕ → Place → Type 0
+abbrev pub BucketOnce : Configuration → ℕ → CursorPlace → Type 0
 BucketOnce r n Nowhere = count r n ≡ 0
 BucketOnce r n (AtLoose x) = LooseOnce r n x
 BucketOnce r n (Within b x) = WithinOnce r n b x
 BucketOnce r n (AtEndOf b) = ⊥
 
 -- Where a cursor at the end of the brigade n stands. It stands nowhere only where no variable has that brigade.
-abbrev pub BrigadeOnce : Configuration → ℕ → Place → Type 0
+abbrev pub BrigadeOnce : Configuration → ℕ → CursorPlace → Type 0
 BrigadeOnce r n Nowhere = (k : ℕ) → brigade_name (r.instance.brigades k) ≢ Some n
 BrigadeOnce r n (AtLoose x) = ⊥
 BrigadeOnce r n (Within b x) = ⊥
 BrigadeOnce r n (AtEndOf b) = EndOnce r n b
 
-abbrev pub StandsOnce : Configuration → Cursor → Place → Type 0
+abbrev pub StandsOnce : Configuration → Cursor → CursorPlace → Type 0
 StandsOnce r cursor.Unset s = s ≡ Nowhere
 StandsOnce r (cursor.At n) s = BucketOnce r n s
 StandsOnce r (cursor.End n) s = BrigadeOnce r n s
@@ -121,7 +121,7 @@ abbrev pub BrigadesSplitInOrder : Type 0
 BrigadesSplitInOrder = (p : Program) (choice : Choice) (b c a : ℕ) (r : Configuration) → MayExecute p r (instr.BSplit b c a) → SplitsBrigade b c a r (step p choice (instr.BSplit b c a) r).state
 
 -- at a bucket of the brigade in this variable, or at its end
-abbrev pub IsPlaceIn : ℕ → Place → Type 0
+abbrev pub IsPlaceIn : ℕ → CursorPlace → Type 0
 IsPlaceIn b Nowhere = ⊥
 IsPlaceIn b (AtLoose x) = ⊥
 IsPlaceIn b (Within k x) = k ≡ b

@@ -14,7 +14,7 @@ use Rattle.run_model.specs.Buckets.{has_eos, data_after_eos, is_dead}
 use Rattle.run_model.specs.Files.{is_referred}
 use Rattle.run_model.specs.Cutting.{FitsKind, wanted, read_of}
 use Rattle.run_model.specs.State.{Configuration, items_of}
-use Rattle.run_model.specs.Cursors.{Place, Nowhere, AtLoose, Within, AtEndOf, at_cursor, read_cursor}
+use Rattle.run_model.specs.Cursors.{CursorPlace, Nowhere, AtLoose, Within, AtEndOf, at_cursor, read_cursor}
 use Rattle.run_model.specs.Faults.{fault, send_fault, or_else}
 use Rattle.run_model.specs.declared.effect.Effect.{Effect}
 use Rattle.run_model.specs.declared.effect.Effect.TheVariants as effect
@@ -65,13 +65,13 @@ abbrev pub StepKeepsPools : Type 0
 StepKeepsPools = (p : Program) (choice : Choice) (i : Instr) (r : Configuration) → MayExecute p r i → SoundPools r → SoundPools (step p choice i r).state
 
 -- whether a cursor stands at a bucket of the brigade in this variable
-abbrev pub is_within : Place → ℕ → Bool
+abbrev pub is_within : CursorPlace → ℕ → Bool
 is_within Nowhere k = false
 is_within (AtLoose x) k = false
 is_within (Within b x) k = k == b
 is_within (AtEndOf b) k = false
 
-abbrev pub is_loose : Place → Bool
+abbrev pub is_loose : CursorPlace → Bool
 is_loose Nowhere = false
 is_loose (AtLoose x) = true
 is_loose (Within b x) = false

@@ -13,7 +13,7 @@ use Rattle.run_model.specs.declared.fault.FaultKind.TheVariants as fault_kind
 use Rattle.run_model.specs.declared.event.Event.{Event}
 use Rattle.run_model.specs.declared.event.Event.TheVariants as event
 use Rattle.run_model.specs.State.{Configuration, items_of}
-use Rattle.run_model.specs.Cursors.{Place, Nowhere, AtLoose, Within, AtEndOf, at_cursor}
+use Rattle.run_model.specs.Cursors.{CursorPlace, Nowhere, AtLoose, Within, AtEndOf, at_cursor}
 use Rattle.run_model.specs.Faults.{Want, WPool, WBrigade, WUsable, WNew, WNewPool, WCursor, WHomes, WHome, WHomeAcross, WSend, WReturn, wants, fault_want, fault}
 use Rattle.run_model.specs.Steps.{Choice, step, current}
 use Rattle.run_model.specs.Sound.{brigade_name}
@@ -24,7 +24,7 @@ use Rattle.model_laws.specs.ChainNumbers.{WorldNumbers}
 use Rattle.model_laws.specs.ChainOrder.{WorldOrder}
 
 -- whether a cursor stands at a bucket or at the end of the brigade in this variable
-abbrev pub is_at : Place → ℕ → Bool
+abbrev pub is_at : CursorPlace → ℕ → Bool
 is_at Nowhere k = false
 is_at (AtLoose x) k = false
 is_at (Within b x) k = k == b

@@ -4,7 +4,7 @@ pub use Rattle.module_code.specs.Program.{IsModule, Program, fits, program, targ
 pub use Rattle.module_code.specs.Words.{kind_test_text}
 pub use Rattle.byte_text.specs.Bytes.{begins, tail}
 pub use Rattle.byte_text.specs.Quoted.{spelling}
-pub use Rattle.byte_text.specs.Writes.{Wrote}
+pub use Rattle.byte_text.specs.Writes.{Wrote, writer_state}
 pub use Rattle.module_lang.specs.Assembling.{assembling, draft_read, is_end, lines_ended, lines_read, program_of}
 pub use Rattle.module_lang.specs.Codes.{Gives, Tells, unless}
 pub use Rattle.module_lang.specs.Drafts.{empty_draft}

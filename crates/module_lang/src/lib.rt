@@ -12,7 +12,9 @@ mod refusal;
 pub mod text;
 
 pub use assembler::assemble;
-pub use byte_text::{Measured, WriteFault, measure, print_text, push_spelling, put_all, unquote};
+pub use byte_text::{
+    Measured, TextWriter, WriteFault, measure, print_text, push_spelling, put_all, unquote,
+};
 pub use module_code::{Instr, KindTest, Module, PoolRef, Seq, Status, Value, VarRef, is_name};
 pub use print::print_module;
 pub use refusal::{AsmRefusal, Code};

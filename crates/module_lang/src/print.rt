@@ -3,9 +3,9 @@
 ghost use Rattle.std.specs.Prelude.{◌≡◌, ℕ, ◌<◌, ◌≤◌, ◌∷◌, ◌++◌, [], Some, true, All, List, decimal, length, map, slice_get, is_some};
 ghost use Rattle.module_lang.specs.Prelude.{place_is_declared, is_value, is_number, label_line, is_target, printed, target_name, IsModule, fits, target, spelling, shown_arg, shown_args, AreShort};
 ghost use Rattle.module_lang.specs.Prelude.{HasDigit, IsShortArg, shown_line, shown_step, shown_code, shown_declarations, shown_handler, brigade_text, brigade_texts, code_text, cursor_text, joined};
-ghost use Rattle.module_lang.specs.Prelude.{operands_text, own_text, place_text, pool_texts, status_text, value_text, variable_text, IsTextOf, kind_test_text, Wrote};
+ghost use Rattle.module_lang.specs.Prelude.{operands_text, own_text, place_text, pool_texts, status_text, value_text, variable_text, IsTextOf, kind_test_text, Wrote, writer_state};
 
-use byte_text::{WriteFault, print_text, put_all};
+use byte_text::{TextWriter, WriteFault, print_text, put_all};
 use itoa::Buffer;
 use module_code::parts::parts;
 use module_code::{Arg, Args, Instr, KindTest, Module, PoolRef, Status, Value, VarRef};
@@ -30,24 +30,24 @@ fn is_target(code: &[Instr], number: usize) -> bool
 }
 
 /// The name of the label before the instruction of this number.
-fn put_name<W: Write>(out: &mut W, number: usize) -> Result<(), WriteFault>
-    ensures { Wrote result (W.contents out.old) (W.contents out.new) (target_name number) }
+fn put_name<W: Write>(out: &mut TextWriter<W>, number: usize) -> Result<(), WriteFault>
+    ensures { Wrote result (writer_state W.contents out.old) (writer_state W.contents out.new) (target_name number) }
 {
     let mut digits = Buffer::new();
     put_all(out, b"i")?;
     put_all(out, digits.format(number).as_bytes())
 }
 
-fn put_target<W: Write>(out: &mut W, number: usize) -> Result<(), WriteFault>
-    ensures { Wrote result (W.contents out.old) (W.contents out.new) (operands_text (target_name number ∷ [])) }
+fn put_target<W: Write>(out: &mut TextWriter<W>, number: usize) -> Result<(), WriteFault>
+    ensures { Wrote result (writer_state W.contents out.old) (writer_state W.contents out.new) (operands_text (target_name number ∷ [])) }
 {
     put_all(out, b" ")?;
     put_name(out, number)
 }
 
-fn put_place<W: Write>(out: &mut W, place: PoolRef) -> Result<(), WriteFault>
+fn put_place<W: Write>(out: &mut TextWriter<W>, place: PoolRef) -> Result<(), WriteFault>
     requires { place_is_declared 8 place ≡ true }
-    ensures { Wrote result (W.contents out.old) (W.contents out.new) (operands_text (place_text place ∷ [])) }
+    ensures { Wrote result (writer_state W.contents out.old) (writer_state W.contents out.new) (operands_text (place_text place ∷ [])) }
 {
     match place {
         PoolRef::Conn => put_all(out, b" conn"),
@@ -56,16 +56,16 @@ fn put_place<W: Write>(out: &mut W, place: PoolRef) -> Result<(), WriteFault>
     }
 }
 
-fn put_own<W: Write>(out: &mut W, brigade: u8) -> Result<(), WriteFault>
+fn put_own<W: Write>(out: &mut TextWriter<W>, brigade: u8) -> Result<(), WriteFault>
     requires { brigade < 8 }
-    ensures { Wrote result (W.contents out.old) (W.contents out.new) (operands_text (own_text brigade ∷ [])) }
+    ensures { Wrote result (writer_state W.contents out.old) (writer_state W.contents out.new) (operands_text (own_text brigade ∷ [])) }
 {
     put_all(out, &[b' ', b'b', b'0' + brigade])
 }
 
-fn put_source<W: Write>(out: &mut W, brigade: u8) -> Result<(), WriteFault>
+fn put_source<W: Write>(out: &mut TextWriter<W>, brigade: u8) -> Result<(), WriteFault>
     requires { IsShortArg [] (Arg.Source brigade) }
-    ensures { Wrote result (W.contents out.old) (W.contents out.new) (operands_text (brigade_text brigade ∷ [])) }
+    ensures { Wrote result (writer_state W.contents out.old) (writer_state W.contents out.new) (operands_text (brigade_text brigade ∷ [])) }
 {
     if brigade == 8 {
         return put_all(out, b" in");
@@ -73,9 +73,9 @@ fn put_source<W: Write>(out: &mut W, brigade: u8) -> Result<(), WriteFault>
     put_own(out, brigade)
 }
 
-fn put_variable<W: Write>(out: &mut W, variable: VarRef) -> Result<(), WriteFault>
+fn put_variable<W: Write>(out: &mut TextWriter<W>, variable: VarRef) -> Result<(), WriteFault>
     requires { HasDigit variable }
-    ensures { Wrote result (W.contents out.old) (W.contents out.new) (operands_text (variable_text variable ∷ [])) }
+    ensures { Wrote result (writer_state W.contents out.old) (writer_state W.contents out.new) (operands_text (variable_text variable ∷ [])) }
 {
     match variable {
         VarRef::Pool(pool) => put_place(out, PoolRef::Own(pool)),
@@ -83,8 +83,8 @@ fn put_variable<W: Write>(out: &mut W, variable: VarRef) -> Result<(), WriteFaul
     }
 }
 
-fn put_status<W: Write>(out: &mut W, status: Status) -> Result<(), WriteFault>
-    ensures { Wrote result (W.contents out.old) (W.contents out.new) (operands_text (status_text status ∷ [])) }
+fn put_status<W: Write>(out: &mut TextWriter<W>, status: Status) -> Result<(), WriteFault>
+    ensures { Wrote result (writer_state W.contents out.old) (writer_state W.contents out.new) (operands_text (status_text status ∷ [])) }
 {
     match status {
         Status::Success => put_all(out, b" ok"),
@@ -92,17 +92,17 @@ fn put_status<W: Write>(out: &mut W, status: Status) -> Result<(), WriteFault>
     }
 }
 
-fn put_constant<W: Write>(out: &mut W, constant: u32) -> Result<(), WriteFault>
-    ensures { Wrote result (W.contents out.old) (W.contents out.new) (operands_text (decimal constant ∷ [])) }
+fn put_constant<W: Write>(out: &mut TextWriter<W>, constant: u32) -> Result<(), WriteFault>
+    ensures { Wrote result (writer_state W.contents out.old) (writer_state W.contents out.new) (operands_text (decimal constant ∷ [])) }
 {
     let mut digits = Buffer::new();
     put_all(out, b" ")?;
     put_all(out, digits.format(constant).as_bytes())
 }
 
-fn put_value<W: Write>(out: &mut W, value: Value) -> Result<(), WriteFault>
+fn put_value<W: Write>(out: &mut TextWriter<W>, value: Value) -> Result<(), WriteFault>
     requires { is_value value ≡ true }
-    ensures { Wrote result (W.contents out.old) (W.contents out.new) (operands_text (value_text value ∷ [])) }
+    ensures { Wrote result (writer_state W.contents out.old) (writer_state W.contents out.new) (operands_text (value_text value ∷ [])) }
 {
     match value {
         Value::Number(number) => put_all(out, &[b' ', b'n', b'0' + number]),
@@ -110,22 +110,22 @@ fn put_value<W: Write>(out: &mut W, value: Value) -> Result<(), WriteFault>
     }
 }
 
-fn put_cursor<W: Write>(out: &mut W, cursor: u8) -> Result<(), WriteFault>
+fn put_cursor<W: Write>(out: &mut TextWriter<W>, cursor: u8) -> Result<(), WriteFault>
     requires { cursor < 8 }
-    ensures { Wrote result (W.contents out.old) (W.contents out.new) (operands_text (cursor_text cursor ∷ [])) }
+    ensures { Wrote result (writer_state W.contents out.old) (writer_state W.contents out.new) (operands_text (cursor_text cursor ∷ [])) }
 {
     put_all(out, &[b' ', b'c', b'0' + cursor])
 }
 
-fn put_kind_test<W: Write>(out: &mut W, kind: KindTest) -> Result<(), WriteFault>
-    ensures { Wrote result (W.contents out.old) (W.contents out.new) (operands_text (kind_test_text kind ∷ [])) }
+fn put_kind_test<W: Write>(out: &mut TextWriter<W>, kind: KindTest) -> Result<(), WriteFault>
+    ensures { Wrote result (writer_state W.contents out.old) (writer_state W.contents out.new) (operands_text (kind_test_text kind ∷ [])) }
 {
     put_all(out, b" ")?;
     put_all(out, kind.text())
 }
 
-fn put_text<W: Write>(out: &mut W, text: &[u8]) -> Result<(), WriteFault>
-    ensures { Wrote result (W.contents out.old) (W.contents out.new) (operands_text (spelling text.now ∷ [])) }
+fn put_text<W: Write>(out: &mut TextWriter<W>, text: &[u8]) -> Result<(), WriteFault>
+    ensures { Wrote result (writer_state W.contents out.old) (writer_state W.contents out.new) (operands_text (spelling text.now ∷ [])) }
 {
     put_all(out, b" ")?;
     print_text(out, text)
@@ -133,9 +133,9 @@ fn put_text<W: Write>(out: &mut W, text: &[u8]) -> Result<(), WriteFault>
 
 /// An operand, with the space before it.
 #[tactic(auto, unfolding(module_code::specs::Program::text_at))]
-fn put_arg<W: Write>(out: &mut W, module: &Module, arg: Arg) -> Result<(), WriteFault>
+fn put_arg<W: Write>(out: &mut TextWriter<W>, module: &Module, arg: Arg) -> Result<(), WriteFault>
     requires { IsShortArg «module».now.texts arg }
-    ensures { Wrote result (W.contents out.old) (W.contents out.new) (shown_arg «module».now.texts arg) }
+    ensures { Wrote result (writer_state W.contents out.old) (writer_state W.contents out.new) (shown_arg «module».now.texts arg) }
 {
     match arg {
         Arg::Nothing => Ok(()),
@@ -154,9 +154,13 @@ fn put_arg<W: Write>(out: &mut W, module: &Module, arg: Arg) -> Result<(), Write
     }
 }
 
-fn put_args<W: Write>(out: &mut W, module: &Module, args: Args) -> Result<(), WriteFault>
+fn put_args<W: Write>(
+    out: &mut TextWriter<W>,
+    module: &Module,
+    args: Args,
+) -> Result<(), WriteFault>
     requires { AreShort «module».now.texts args }
-    ensures { Wrote result (W.contents out.old) (W.contents out.new) (shown_args «module».now.texts args) }
+    ensures { Wrote result (writer_state W.contents out.old) (writer_state W.contents out.new) (shown_args «module».now.texts args) }
 {
     put_arg(out, module, args.first)?;
     put_arg(out, module, args.second)?;
@@ -166,13 +170,13 @@ fn put_args<W: Write>(out: &mut W, module: &Module, args: Args) -> Result<(), Wr
 
 /// A line of a word and its operands.
 fn put_line<W: Write>(
-    out: &mut W,
+    out: &mut TextWriter<W>,
     module: &Module,
     word: &[u8],
     args: Args,
 ) -> Result<(), WriteFault>
     requires { AreShort «module».now.texts args }
-    ensures { Wrote result (W.contents out.old) (W.contents out.new) (shown_line «module».now.texts word.now args) }
+    ensures { Wrote result (writer_state W.contents out.old) (writer_state W.contents out.new) (shown_line «module».now.texts word.now args) }
 {
     put_all(out, word)?;
     put_args(out, module, args)?;
@@ -180,19 +184,23 @@ fn put_line<W: Write>(
 }
 
 /// The line of an instruction of a module.
-fn put_step<W: Write>(out: &mut W, module: &Module, instr: Instr) -> Result<(), WriteFault>
+fn put_step<W: Write>(
+    out: &mut TextWriter<W>,
+    module: &Module,
+    instr: Instr,
+) -> Result<(), WriteFault>
     requires pools { length «module».now.pools ≤ 8 }
     requires brigades { length «module».now.brigades ≤ 8 }
     requires fit { fits «module».now instr ≡ true }
-    ensures { Wrote result (W.contents out.old) (W.contents out.new) (shown_step «module».now.texts instr) }
+    ensures { Wrote result (writer_state W.contents out.old) (writer_state W.contents out.new) (shown_step «module».now.texts instr) }
 {
     let (op, args) = parts(instr);
     put_line(out, module, op.text(), args)
 }
 
 /// The line of the label before the instruction of this number.
-fn put_label<W: Write>(out: &mut W, number: usize) -> Result<(), WriteFault>
-    ensures { Wrote result (W.contents out.old) (W.contents out.new) (58 ∷ target_name number ++ 10 ∷ []) }
+fn put_label<W: Write>(out: &mut TextWriter<W>, number: usize) -> Result<(), WriteFault>
+    ensures { Wrote result (writer_state W.contents out.old) (writer_state W.contents out.new) (58 ∷ target_name number ++ 10 ∷ []) }
 {
     put_all(out, b":")?;
     put_name(out, number)?;
@@ -200,8 +208,12 @@ fn put_label<W: Write>(out: &mut W, number: usize) -> Result<(), WriteFault>
 }
 
 /// The same, if that instruction is a target.
-fn put_label_before<W: Write>(out: &mut W, code: &[Instr], number: usize) -> Result<(), WriteFault>
-    ensures { Wrote result (W.contents out.old) (W.contents out.new) (joined (map code_text (label_line code.now number))) }
+fn put_label_before<W: Write>(
+    out: &mut TextWriter<W>,
+    code: &[Instr],
+    number: usize,
+) -> Result<(), WriteFault>
+    ensures { Wrote result (writer_state W.contents out.old) (writer_state W.contents out.new) (joined (map code_text (label_line code.now number))) }
 {
     if is_target(code, number) {
         put_label(out, number)
@@ -212,13 +224,13 @@ fn put_label_before<W: Write>(out: &mut W, code: &[Instr], number: usize) -> Res
 
 /// The lines of the instructions from one number up to another.
 fn put_code<W: Write>(
-    out: &mut W,
+    out: &mut TextWriter<W>,
     module: &Module,
     from: usize,
     to: usize,
 ) -> Result<(), WriteFault>
     requires { to ≤ length «module».now.code }
-    ensures { Wrote result (W.contents out.old) (W.contents out.new) (shown_code «module».now.texts «module».now.code from to) }
+    ensures { Wrote result (writer_state W.contents out.old) (writer_state W.contents out.new) (shown_code «module».now.texts «module».now.code from to) }
 {
     for number in from..to {
         let instr = module.at(number);
@@ -228,10 +240,14 @@ fn put_code<W: Write>(
     Ok(())
 }
 
-fn put_pools<W: Write>(out: &mut W, module: &Module, pools: &[PoolRef]) -> Result<(), WriteFault>
+fn put_pools<W: Write>(
+    out: &mut TextWriter<W>,
+    module: &Module,
+    pools: &[PoolRef],
+) -> Result<(), WriteFault>
     requires few { length pools.now ≤ 8 }
     requires short { All (λ q. place_is_declared 8 q ≡ true) pools.now }
-    ensures { Wrote result (W.contents out.old) (W.contents out.new) (joined (pool_texts 0 pools.now)) }
+    ensures { Wrote result (writer_state W.contents out.old) (writer_state W.contents out.new) (joined (pool_texts 0 pools.now)) }
 {
     for (i, parent) in pools.iter().enumerate() {
         let args = Args::two(Arg::Pool(i as u8), Arg::Place(*parent));
@@ -241,13 +257,13 @@ fn put_pools<W: Write>(out: &mut W, module: &Module, pools: &[PoolRef]) -> Resul
 }
 
 fn put_brigades<W: Write>(
-    out: &mut W,
+    out: &mut TextWriter<W>,
     module: &Module,
     brigades: &[PoolRef],
 ) -> Result<(), WriteFault>
     requires few { length brigades.now ≤ 8 }
     requires short { All (λ q. place_is_declared 8 q ≡ true) brigades.now }
-    ensures { Wrote result (W.contents out.old) (W.contents out.new) (joined (brigade_texts 0 brigades.now)) }
+    ensures { Wrote result (writer_state W.contents out.old) (writer_state W.contents out.new) (joined (brigade_texts 0 brigades.now)) }
 {
     for (i, pool) in brigades.iter().enumerate() {
         let args = Args::two(Arg::Brigade(i as u8), Arg::Place(*pool));
@@ -257,9 +273,9 @@ fn put_brigades<W: Write>(
 }
 
 /// The declarations, behind the line of the version.
-fn put_declarations<W: Write>(out: &mut W, module: &Module) -> Result<(), WriteFault>
+fn put_declarations<W: Write>(out: &mut TextWriter<W>, module: &Module) -> Result<(), WriteFault>
     requires { IsModule «module».now }
-    ensures { Wrote result (W.contents out.old) (W.contents out.new) (shown_declarations «module».now) }
+    ensures { Wrote result (writer_state W.contents out.old) (writer_state W.contents out.new) (shown_declarations «module».now) }
 {
     put_all(out, b"module 1\n")?;
     put_pools(out, module, module.pools())?;
@@ -268,13 +284,13 @@ fn put_declarations<W: Write>(out: &mut W, module: &Module) -> Result<(), WriteF
 
 /// The line of a handler, and those of its instructions.
 fn put_handler<W: Write>(
-    out: &mut W,
+    out: &mut TextWriter<W>,
     word: &[u8],
     module: &Module,
     range: Range<usize>,
 ) -> Result<(), WriteFault>
     requires { range.end ≤ length «module».now.code }
-    ensures { Wrote result (W.contents out.old) (W.contents out.new) (shown_handler word.now «module».now.texts «module».now.code range.start range.end) }
+    ensures { Wrote result (writer_state W.contents out.old) (writer_state W.contents out.new) (shown_handler word.now «module».now.texts «module».now.code range.start range.end) }
 {
     put_line(out, module, word, Args::none())?;
     put_code(out, module, range.start, range.end)
@@ -285,8 +301,8 @@ fn put_handler<W: Write>(
 ///
 /// `WriteFault`: the writer failed or took no byte; a front of the text is written. `assemble` takes the text as the
 /// same module.
-pub fn print_module<W: Write>(module: &Module, out: &mut W) -> Result<(), WriteFault>
-    ensures written { Wrote result (W.contents out.old) (W.contents out.new) (printed «module».now) }
+pub fn print_module<W: Write>(module: &Module, out: &mut TextWriter<W>) -> Result<(), WriteFault>
+    ensures written { Wrote result (writer_state W.contents out.old) (writer_state W.contents out.new) (printed «module».now) }
     ensures round { IsTextOf (printed «module».now) «module».now }
 {
     let end = module.code().len();

@@ -14,12 +14,12 @@ use Rattle.brigade_ops.specs.Store.{lists, brigade_of, pool_of, next_name}
 use Rattle.module_run.specs.Proceeding.{LeftAs}
 use Rattle.run_model.specs.declared.event.Cause.{Cause}
 use Rattle.run_model.specs.declared.payload.Payload.{Payload}
-use Rattle.stored_rings.specs.Items.{Items}
+use Rattle.bucket_store.specs.Items.{Items}
 use Rattle.module_run.specs.declared.conn.Conn.{Conn}
 use Rattle.module_run.specs.declared.conn.OpenFile.{OpenFile}
 use Rattle.module_run.specs.Conns.{conn_of, filter_at, labels_handed}
 use Rattle.module_run.specs.Stacked.{StackedOver}
-use Rattle.ring_run.specs.declared.labels_run.LabelsRun.{LabelsRun}
+use Rattle.interp_exec.specs.declared.labels_run.LabelsRun.{LabelsRun}
 
 -- with these labels, pools, files, output, count and cause
 abbrev pub beside : Conn → Vec LabelsRun → ℕ → Option ℕ → Vec OpenFile → List ℕ → Bool → ℕ → Option Cause → Conn

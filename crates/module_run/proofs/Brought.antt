@@ -12,10 +12,10 @@ use Rattle.run_model.specs.declared.event.Piece.TheVariants as piece
 use Rattle.run_model.specs.Pieces.{bucket_of, named_from}
 use Rattle.bucket_kinds.specs.declared.stored.Stored.{Stored}
 use Rattle.brigade_ops.specs.declared.store.Brigades.{Brigades}
-use Rattle.stored_rings.specs.Items.{Item, Items, named, named_item}
+use Rattle.bucket_store.specs.Items.{Item, Items, named, named_item}
 use Rattle.brigade_ops.specs.Store.{lists, next_name}
 use Rattle.brigade_ops.proofs.Stores.{brigades}
-use Rattle.ring_calls.specs.Seen.{home_in, bucket_in, read_in, shown}
+use Rattle.interp_state.specs.Seen.{home_in, bucket_in, read_in, shown}
 
 module _ (runs : ℕ → Bool) (call req : ℕ) (alive : runs call ≡ true) where
   home_reads : (n : ℕ) → call < n → home_in runs n (home.Call call) ≡ home.Call call

@@ -9,7 +9,7 @@ use Rattle.module_code.specs.Program.{Program}
 use Rattle.module_run.specs.declared.conn.Conn.{Conn}
 use Rattle.module_run.specs.Conns.{stack_over, filter_at, call_name, top_of, waiting}
 use Rattle.module_run.specs.Stacked.{AreCalled, called_of, is_called, is_waiting, names_of}
-use Rattle.ring_calls.proofs.Pushed.{pushed_in, pushed_kept, pushed_only}
+use Rattle.interp_state.proofs.Pushed.{pushed_in, pushed_kept, pushed_only}
 
 -- one call more
 pub over_pushed : (f : ℕ → Frame) (ks : List ℕ) (k : ℕ) → stack_over f (ks ++ k ∷ []) ≡ f k ∷ stack_over f ks

@@ -14,13 +14,13 @@ use Rattle.run_model.specs.Pools.{Pools, is_under}
 use Rattle.bucket_kinds.specs.declared.stored.Stored.{Stored}
 use Rattle.brigade_ops.specs.declared.store.Brigades.{Brigades}
 use Rattle.brigade_ops.specs.Store.{lists, brigade_of, pool_of, next_name}
-use Rattle.ring_calls.specs.declared.machine.Call.{Call}
-use Rattle.ring_calls.specs.declared.machine.Instance.{Instance}
-use Rattle.ring_calls.specs.declared.machine.Slot.{Slot}
-use Rattle.ring_calls.specs.declared.machine.Slot.TheVariants as slot
-use Rattle.ring_calls.specs.LeftAlone as run
-use Rattle.ring_calls.specs.Slots.{marked, name_in, slot_at}
-use Rattle.ring_calls.proofs.Changes.{ring_here, ring_off}
+use Rattle.interp_state.specs.declared.machine.Call.{Call}
+use Rattle.interp_state.specs.declared.machine.Instance.{Instance}
+use Rattle.interp_state.specs.declared.machine.Slot.{Slot}
+use Rattle.interp_state.specs.declared.machine.Slot.TheVariants as slot
+use Rattle.interp_state.specs.LeftAlone as run
+use Rattle.interp_state.specs.Slots.{marked, name_in, slot_at}
+use Rattle.interp_state.proofs.Changes.{ring_here, ring_off}
 use Rattle.module_run.specs.declared.conn.Conn.{Conn}
 use Rattle.module_run.specs.declared.conn.Filter.{Filter}
 use Rattle.module_run.specs.CalledMain.{CalledMain, StartsWith}

@@ -21,20 +21,20 @@ use Rattle.pool_tree.specs.declared.tree.PoolTree.{PoolTree}
 use Rattle.pool_tree.specs.Tree.{map_of}
 use Rattle.bucket_kinds.specs.declared.stored.Stored.{Stored}
 use Rattle.brigade_ops.specs.declared.store.Brigades.{Brigades}
-use Rattle.stored_rings.specs.Items.{Items}
+use Rattle.bucket_store.specs.Items.{Items}
 use Rattle.brigade_ops.specs.Store.{lists, next_name, pool_of}
 use Rattle.brigade_ops.proofs.Stores.{brigades}
-use Rattle.ring_calls.specs.declared.machine.Slot.{Slot}
-use Rattle.ring_calls.specs.declared.machine.Slot.TheVariants as slot
+use Rattle.interp_state.specs.declared.machine.Slot.{Slot}
+use Rattle.interp_state.specs.declared.machine.Slot.TheVariants as slot
 use Rattle.module_run.specs.declared.conn.Filter.{Filter}
 use Rattle.module_run.specs.declared.conn.Conn.{Conn}
 use Rattle.module_run.specs.Conns.{filter_at, place_in, top_of, runs_of, lent_by, shown_instance, shown_filter}
 use Rattle.module_run.specs.Proceeding.{IsReady}
-use Rattle.ring_calls.specs.Seen.{seen_over, shown_as, shown_slot}
-use Rattle.ring_calls.specs.Slots.{slot_at, name_in, live_in}
+use Rattle.interp_state.specs.Seen.{seen_over, shown_as, shown_slot}
+use Rattle.interp_state.specs.Slots.{slot_at, name_in, live_in}
 use Rattle.module_run.specs.Stacked.{named_at}
-use Rattle.ring_calls.proofs.Changes.{live_is}
-use Rattle.ring_calls.proofs.Faultless.{usable_live}
+use Rattle.interp_state.proofs.Changes.{live_is}
+use Rattle.interp_state.proofs.Faultless.{usable_live}
 use Rattle.module_run.proofs.HandsOn.{HasNamesBelow, cases_le}
 use Rattle.module_run.proofs.Callers.{not_called, waits_not}
 use Rattle.module_run.proofs.TopFilter.{on_top_of}

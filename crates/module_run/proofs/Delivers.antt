@@ -23,24 +23,24 @@ use Rattle.pool_tree.specs.Tree.{map_of}
 use Rattle.bucket_kinds.specs.declared.stored.Stored.{Stored}
 use Rattle.brigade_ops.specs.declared.store.Brigades.{Brigades}
 use Rattle.brigade_ops.specs.Store.{lists, brigade_of, pool_of, next_name}
-use Rattle.ring_calls.specs.declared.machine.Instance.{Instance}
-use Rattle.ring_calls.specs.declared.machine.Call.{Call}
+use Rattle.interp_state.specs.declared.machine.Instance.{Instance}
+use Rattle.interp_state.specs.declared.machine.Call.{Call}
 use Rattle.module_run.specs.declared.conn.Filter.{Filter}
 use Rattle.module_run.specs.declared.conn.Conn.{Conn}
-use Rattle.ring_calls.specs.ContextViews.{ContextView}
+use Rattle.interp_state.specs.ContextViews.{ContextView}
 use Rattle.module_run.specs.Conns.{conn_of, filter_at, top_of, IsSeenAs}
-use Rattle.ring_passes.specs.Delivery.{IfElse, ReadsGiven, out_of}
-use Rattle.ring_calls.specs.Held.{IsHeld}
-use Rattle.ring_calls.specs.LeftAlone.{LeavesForeign}
+use Rattle.interp_calls.specs.Delivery.{IfElse, ReadsGiven, out_of}
+use Rattle.interp_state.specs.Held.{IsHeld}
+use Rattle.interp_state.specs.LeftAlone.{LeavesForeign}
 use Rattle.module_run.specs.Proceeding.{IsReady, LeftAs, RefinesStep, MayHold}
-use Rattle.ring_calls.specs.Seen.{seen, seen_over}
-use Rattle.ring_calls.specs.Slots.{slot_at, cursor_at, name_in, marked}
+use Rattle.interp_state.specs.Seen.{seen, seen_over}
+use Rattle.interp_state.specs.Slots.{slot_at, cursor_at, name_in, marked}
 use Rattle.module_run.proofs.AtWork as work
 use Rattle.module_run.proofs.Callers.{waits_below}
 use Rattle.module_run.proofs.Bystanders.{QuietRest, filter_left, frame_left}
 use Rattle.module_run.proofs.CanPass.{none_of, passer}
 use Rattle.module_run.proofs.HandsOn.{name_marked}
-use Rattle.ring_calls.proofs.HeldAlike.{held_cursors}
+use Rattle.interp_state.proofs.HeldAlike.{held_cursors}
 use Rattle.module_run.proofs.Outs.{with_out, seen_out, stacked_out}
 use Rattle.module_run.proofs.Restacked.{changed, ChangesTop, rest_goes_on, restacked}
 use Rattle.module_run.proofs.Resumed.{seen_put_back}

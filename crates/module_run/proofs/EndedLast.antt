@@ -9,20 +9,20 @@ use Rattle.run_model.specs.declared.bucket.BrigadeVar.TheVariants as var
 use Rattle.run_model.specs.Chains.{touched_instance}
 use Rattle.run_model.specs.Effects.{returned_var}
 use Rattle.run_model.specs.State as model
-use Rattle.stored_rings.specs.Items.{Items}
+use Rattle.bucket_store.specs.Items.{Items}
 use Rattle.module_run.specs.declared.conn.Conn.{Conn}
 use Rattle.module_run.specs.declared.conn.Filter.{Filter}
-use Rattle.ring_calls.specs.declared.machine.Instance.{Instance}
-use Rattle.ring_calls.specs.declared.machine.Slot.TheVariants as slot
+use Rattle.interp_state.specs.declared.machine.Instance.{Instance}
+use Rattle.interp_state.specs.declared.machine.Slot.TheVariants as slot
 use Rattle.module_run.specs.Conns.{call_name, filter_at, lent_by, runs_of, shown_filter, shown_instance, top_of, waiting}
-use Rattle.ring_calls.specs.Seen.{is_running}
-use Rattle.ring_calls.specs.Slots.{SameButSlots, name_in, slot_at}
+use Rattle.interp_state.specs.Seen.{is_running}
+use Rattle.interp_state.specs.Slots.{SameButSlots, name_in, slot_at}
 use Rattle.module_run.specs.Stacked.{StackedOver, is_called, named_at, names_of}
 use Rattle.module_run.proofs.EndsFirst.{named_still}
 use Rattle.module_run.proofs.Known.{no_lent, some_is}
-use Rattle.ring_passes.proofs.Returned.{RunsWithout}
+use Rattle.interp_calls.proofs.Returned.{RunsWithout}
 use Rattle.module_run.proofs.ReturnedParts.{AreAsWere, ended_instance, returned_filter}
-use Rattle.ring_passes.proofs.Returns.{runs_without}
+use Rattle.interp_calls.proofs.Returns.{runs_without}
 
 -- what a filter reads as is told by these
 abbrev pub parts : Option Filter → Option (Instance × Option ℕ)

@@ -22,9 +22,9 @@ use Rattle.brigade_ops.specs.Store.{lists, brigade_of, pool_of, references, next
 use Rattle.module_run.specs.declared.conn.Conn.{Conn}
 use Rattle.module_run.specs.declared.conn.Filter.{Filter}
 use Rattle.module_run.specs.Conns.{modules_of, call_name, conn_of, counting, filter_at, runs_of, shown_filter, shown_frame, waiting}
-use Rattle.ring_calls.specs.Held.{IsHeld}
+use Rattle.interp_state.specs.Held.{IsHeld}
 use Rattle.module_run.specs.Proceeding.{IsReady, RefinesReturn}
-use Rattle.ring_calls.specs.Seen.{is_running}
+use Rattle.interp_state.specs.Seen.{is_running}
 use Rattle.module_run.proofs.EndedLast.{EndsLast, each_left, idle, left_as, stays, waits_none}
 use Rattle.module_run.proofs.Finishing.{led, nine, returned_so, top_first}
 use Rattle.module_run.proofs.HeldStays.{held_stays}

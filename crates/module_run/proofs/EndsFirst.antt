@@ -3,12 +3,12 @@ use Rattle.std.proofs.Common.{◌≡◌, ◌≢◌, ◌==◌, ℕ, Bool, Option,
 use Rattle.std.specs.Prelude.{if◌then◌else◌}
 use Rattle.std.proofs.lemmas.Bool.{cases_eq, eq-eqb, ne_eqb}
 use Rattle.bucket_ring.specs.Lists as ring
-use Rattle.stored_rings.specs.Items.{Items}
-use Rattle.ring_calls.specs.declared.machine.Instance.{Instance}
-use Rattle.ring_calls.specs.declared.machine.Slot.TheVariants as slot
-use Rattle.ring_calls.specs.Held.{VariablesApart}
-use Rattle.ring_calls.specs.Slots.{name_in, slot_at}
-use Rattle.ring_calls.proofs.Changes.{ring_off}
+use Rattle.bucket_store.specs.Items.{Items}
+use Rattle.interp_state.specs.declared.machine.Instance.{Instance}
+use Rattle.interp_state.specs.declared.machine.Slot.TheVariants as slot
+use Rattle.interp_state.specs.Held.{VariablesApart}
+use Rattle.interp_state.specs.Slots.{name_in, slot_at}
+use Rattle.interp_state.proofs.Changes.{ring_off}
 use Rattle.module_run.proofs.ReturnedParts.{AreAsWere}
 
 pub named_first : (a b : ℕ) → Some a ≡ Some b → a ≡ b

@@ -7,9 +7,9 @@ use Rattle.std.proofs.lemmas.List.Folds.{list_any-append}
 use Rattle.run_model.specs.Pools.{is_in}
 use Rattle.module_run.specs.declared.conn.Conn.{Conn}
 use Rattle.module_run.specs.Conns.{call_name, filter_at}
-use Rattle.ring_calls.specs.Seen.{is_running}
+use Rattle.interp_state.specs.Seen.{is_running}
 use Rattle.module_run.specs.Stacked.{names_of}
-use Rattle.ring_calls.proofs.Running.{running_waits}
+use Rattle.interp_state.proofs.Running.{running_waits}
 
 module _ {X : Type 0} where
   pub get_here : (xs : List X) (i : ℕ) (w : X) → i < length xs → slice_get (set xs i w) i ≡ Some w

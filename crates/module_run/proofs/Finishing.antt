@@ -20,18 +20,18 @@ use Rattle.pool_tree.specs.Tree.{map_of}
 use Rattle.bucket_kinds.specs.declared.stored.Stored.{Stored}
 use Rattle.brigade_ops.specs.declared.store.Brigades.{Brigades}
 use Rattle.brigade_ops.specs.House.{AreOpen, IsHouse}
-use Rattle.stored_rings.specs.Items.{Items}
+use Rattle.bucket_store.specs.Items.{Items}
 use Rattle.brigade_ops.specs.Store.{lists, pool_of, references, next_name}
 use Rattle.brigade_ops.proofs.Stores.{brigades}
 use Rattle.module_run.specs.declared.conn.Conn.{Conn}
 use Rattle.module_run.specs.declared.conn.Filter.{Filter}
-use Rattle.ring_calls.specs.declared.machine.Instance.{Instance}
-use Rattle.ring_calls.specs.declared.machine.Slot.{Slot}
-use Rattle.ring_calls.specs.declared.machine.Slot.TheVariants as slot
+use Rattle.interp_state.specs.declared.machine.Instance.{Instance}
+use Rattle.interp_state.specs.declared.machine.Slot.{Slot}
+use Rattle.interp_state.specs.declared.machine.Slot.TheVariants as slot
 use Rattle.module_run.specs.Conns.{IsSeenAs, conn_of, filter_at, lent_by, runs_of, shown_filter, shown_frame, shown_instance, stack_over, top_of, waiting}
 use Rattle.module_run.specs.Proceeding.{IsReady, RefinesReturn, LeftAs}
-use Rattle.ring_calls.specs.Seen.{shown_as, shown_slot}
-use Rattle.ring_calls.specs.Slots.{slot_at}
+use Rattle.interp_state.specs.Seen.{shown_as, shown_slot}
+use Rattle.interp_state.specs.Slots.{slot_at}
 use Rattle.module_run.specs.Stacked.{IsStacked}
 use Rattle.module_run.proofs.EndedLast.{EndsLast, HasNine}
 use Rattle.module_run.proofs.Callers.{first_alone, no_callers}
@@ -107,7 +107,7 @@ module _ {R : Type 0} {g : Ghosts R Stored} (chain : List Program) (s : Status) 
 
     none_0 : lists new 0 ≡ None
     none_0 = x.rings 0 (let a = h.called in omega (arith, a)) (λ e. let p = runs in omega (arith, p, e)) (λ e. let p = h.real 8 0 e in omega (arith, p)) ∙ ready.stands.left.none where
-      h : Rattle.ring_calls.specs.Held.IsHeld store x.top.instance x.top.call
+      h : Rattle.interp_state.specs.Held.IsHeld store x.top.instance x.top.call
       h = ready.stands.left.stacked.held c.first x.top x.on_top
 
       runs : 0 < x.top.call.name

@@ -21,20 +21,20 @@ use Rattle.run_model.specs.State.{fresh_call}
 use Rattle.run_model.specs.Turns.{numbers_below, tail_of}
 use Rattle.bucket_kinds.specs.declared.stored.Stored.{Stored}
 use Rattle.brigade_ops.specs.declared.store.Brigades.{Brigades}
-use Rattle.stored_rings.specs.Items.{Items}
+use Rattle.bucket_store.specs.Items.{Items}
 use Rattle.brigade_ops.specs.Store.{lists, next_name}
 use Rattle.module_run.specs.declared.conn.Conn.{Conn}
 use Rattle.module_run.specs.declared.conn.Filter.{Filter}
-use Rattle.ring_calls.specs.declared.machine.Instance.{Instance}
+use Rattle.interp_state.specs.declared.machine.Instance.{Instance}
 use Rattle.module_run.specs.CalledFirst.{CalledFirst, CallStarts}
 use Rattle.module_run.specs.Conns.{modules_of, call_name, conn_of, counting, filter_at, lent_by, runs_of, shown_call, shown_filter, shown_frame, shown_instance, stack_of, stack_over, top_of}
 use Rattle.module_run.specs.Conns.{waiting}
-use Rattle.ring_calls.specs.Seen.{is_running, shown, shown_cursor, shown_slot}
-use Rattle.ring_calls.specs.Slots.{cursor_at, slot_at}
+use Rattle.interp_state.specs.Seen.{is_running, shown, shown_cursor, shown_slot}
+use Rattle.interp_state.specs.Slots.{cursor_at, slot_at}
 use Rattle.module_run.specs.Stacked.{IsStacked, is_called, is_waiting, named_at, names_of}
 use Rattle.module_run.proofs.Callers.{no_callers, none_in_callers}
-use Rattle.ring_passes.proofs.Begins.{by_slot}
-use Rattle.ring_calls.proofs.Changes.{ring_here}
+use Rattle.interp_calls.proofs.Begins.{by_slot}
+use Rattle.interp_state.proofs.Changes.{ring_here}
 use Rattle.module_run.proofs.Looked.{some_same}
 use Rattle.module_run.proofs.Tops.{filter_within, frame_at}
 

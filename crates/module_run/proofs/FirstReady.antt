@@ -21,12 +21,12 @@ use Rattle.brigade_ops.specs.declared.store.Brigades.{Brigades}
 use Rattle.brigade_ops.specs.Store.{lists, brigade_of, pool_of, next_name}
 use Rattle.module_run.specs.declared.conn.Conn.{Conn}
 use Rattle.module_run.specs.declared.conn.Filter.{Filter}
-use Rattle.ring_calls.specs.declared.machine.Instance.{Instance}
+use Rattle.interp_state.specs.declared.machine.Instance.{Instance}
 use Rattle.module_run.specs.Conns.{modules_of, conn_of, counting, filter_at, waiting}
-use Rattle.ring_calls.specs.Held.{IsHeld}
+use Rattle.interp_state.specs.Held.{IsHeld}
 use Rattle.module_run.specs.Proceeding.{IsReady}
 use Rattle.module_run.specs.Stacked.{named_at}
-use Rattle.ring_calls.proofs.Changes.{ring_here, ring_off}
+use Rattle.interp_state.proofs.Changes.{ring_here, ring_off}
 use Rattle.module_run.proofs.EndedLast.{parts}
 use Rattle.module_run.proofs.Filters.{get_here, get_other}
 use Rattle.module_run.proofs.Finishing.{rest_none, top_first}

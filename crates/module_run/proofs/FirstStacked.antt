@@ -19,17 +19,17 @@ use Rattle.brigade_ops.specs.Store.{lists, brigade_of, pool_of, next_name, refer
 use Rattle.brigade_ops.proofs.HouseCalls.{house_loose}
 use Rattle.module_run.specs.declared.conn.Conn.{Conn}
 use Rattle.module_run.specs.declared.conn.Filter.{Filter}
-use Rattle.ring_calls.specs.declared.machine.Call.{Call}
-use Rattle.ring_calls.specs.declared.machine.Instance.{Instance}
+use Rattle.interp_state.specs.declared.machine.Call.{Call}
+use Rattle.interp_state.specs.declared.machine.Instance.{Instance}
 use Rattle.module_run.specs.CalledFirst.{CalledFirst, CallStarts}
 use Rattle.module_run.specs.Conns.{top_of, conn_of, filter_at}
-use Rattle.ring_calls.specs.Held.{IsHeld}
+use Rattle.interp_state.specs.Held.{IsHeld}
 use Rattle.module_run.specs.Proceeding.{LeftAs}
-use Rattle.ring_calls.specs.Slots.{slot_at, name_in}
+use Rattle.interp_state.specs.Slots.{slot_at, name_in}
 use Rattle.module_run.specs.Stacked.{FiltersApart, AreCalled, IsStacked, is_called, is_waiting, named_at}
 use Rattle.module_run.proofs.Callers.{no_callers, alone_bottom, alone_called, alone_names, alone_rises, called_top, none_in_callers}
-use Rattle.ring_passes.proofs.Begins.{held_begun}
-use Rattle.ring_calls.proofs.Changes.{ring_off}
+use Rattle.interp_calls.proofs.Begins.{held_begun}
+use Rattle.interp_state.proofs.Changes.{ring_off}
 use Rattle.module_run.proofs.FirstCalls.{Was, was, others_stay, waits_are, first_is, none_waiting, starts, before, before_is, after, after_is, conn_called, no_call, nothing_in, not_lent, top_is_first}
 use Rattle.module_run.proofs.FirstCalls.{no_lent, true_false}
 use Rattle.module_run.proofs.HeldStays.{held_stays}

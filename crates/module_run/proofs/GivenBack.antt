@@ -23,24 +23,24 @@ use Rattle.run_model.specs.State as model
 use Rattle.run_model.specs.State.{items_of}
 use Rattle.run_model.specs.Steps.{current}
 use Rattle.run_model.proofs.Updates.{upd_either}
-use Rattle.stored_rings.specs.Items.{Items}
+use Rattle.bucket_store.specs.Items.{Items}
 use Rattle.module_run.specs.declared.conn.Conn.{Conn}
 use Rattle.module_run.specs.declared.conn.Filter.{Filter}
-use Rattle.ring_calls.specs.declared.machine.Slot.TheVariants as slot
+use Rattle.interp_state.specs.declared.machine.Slot.TheVariants as slot
 use Rattle.module_run.specs.Conns.{call_name, conn_of, counting, filter_at, lent_by, runs_of, shown_filter, shown_frame, shown_instance, stack_of, stack_over, top_of, waiting}
-use Rattle.ring_calls.specs.Seen.{is_running}
-use Rattle.ring_calls.specs.Slots.{SameButSlots, cursor_at, slot_at}
+use Rattle.interp_state.specs.Seen.{is_running}
+use Rattle.interp_state.specs.Slots.{SameButSlots, cursor_at, slot_at}
 use Rattle.module_run.specs.Stacked.{StackedOver, called_of, is_waiting, names_of}
-use Rattle.ring_calls.proofs.Changes.{ring_off}
+use Rattle.interp_state.proofs.Changes.{ring_off}
 use Rattle.module_run.proofs.Filters.{names_none, running_last}
 use Rattle.module_run.proofs.Known.{no_lent}
-use Rattle.ring_passes.proofs.Returned.{RunsWithout}
+use Rattle.interp_calls.proofs.Returned.{RunsWithout}
 use Rattle.module_run.proofs.ReturnedParts.{AreAsWere, ended_instance, given_instance, returned_filter, returned_frame}
-use Rattle.ring_passes.proofs.Returns.{runs_without}
+use Rattle.interp_calls.proofs.Returns.{runs_without}
 use Rattle.run_model.specs.Pools.{is_in}
 use Rattle.std.proofs.lemmas.Option.{slice_get_within}
 use Rattle.std.proofs.lemmas.List.{length-append}
-use Rattle.ring_calls.proofs.Pushed.{pushed_in}
+use Rattle.interp_state.proofs.Pushed.{pushed_in}
 use Rattle.module_run.proofs.Callers.{called_top, frames_mapped, get_last, get_left, in_get, names_more, top_at, waits_below, waits_not}
 use Rattle.module_run.proofs.Tops.{frame_at}
 
@@ -141,7 +141,7 @@ module _ (chain : List Program) (s : Status) (at : BucketId → Option ℕ) (L M
     before = ap (λ (o : Option Filter). is_running (call_name o) c.waits.items n) x.on_top ∙ ap (λ (ws : List ℕ). is_running x.top.call.name ws n) st.called.waits
 
     names : names_of c x.left ++ x.resumed.call.name ∷ [] ≡ names_of c c.callers.items
-    names = ap (λ (m : ℕ). names_of c x.left ++ m ∷ []) (ap (λ (k : Rattle.ring_calls.specs.declared.machine.Call.Call). k.name) x.call ∙ sym (ap call_name x.below))
+    names = ap (λ (m : ℕ). names_of c x.left ++ m ∷ []) (ap (λ (k : Rattle.interp_state.specs.declared.machine.Call.Call). k.name) x.call ∙ sym (ap call_name x.below))
         ∙ (sym (names_more c x.left w) ∙ ap (names_of c) (sym x.callers))
 
     after : runs_of d n ≡ is_running 0 (names_of c c.callers.items) n
@@ -235,7 +235,7 @@ module _ (chain : List Program) (s : Status) (at : BucketId → Option ℕ) (L M
     resumed_is : frame_at M d w ≡ resumed_as (touched wait_frame)
     unfolding cursor_at
     resumed_is = ap (shown_frame (runs_of d) M w) x.below_after
-        ∙ (ap (λ (k : Rattle.ring_calls.specs.declared.machine.Call.Call). shown_frame (runs_of d) M w (Some (record x.resumed { call = k }))) x.call
+        ∙ (ap (λ (k : Rattle.interp_state.specs.declared.machine.Call.Call). shown_frame (runs_of d) M w (Some (record x.resumed { call = k }))) x.call
         ∙ ap resumed_as (returned_frame (runs_of c) (runs_of d) x.top.call.name without L M w (Some x.wait) (λ f is. loose_stays w f (x.below ∙ is) off_t)))
 
     stack_is : stack_of M d ≡ resumed_as (touched wait_frame) ∷ map touched (stack_over (frame_at L c) x.left)

@@ -4,13 +4,13 @@ use Rattle.std.specs.Prelude.{if◌then◌else◌}
 use Rattle.std.specs.Global.{Vec}
 use Rattle.std.proofs.lemmas.Bool.{cases_eq, eq-eqb, ne_eqb, leb-true, leb-false}
 use Rattle.run_model.specs.declared.bucket.Mark.TheVariants.{Usable, Passed}
-use Rattle.ring_calls.specs.declared.machine.Call.{Call}
-use Rattle.ring_calls.specs.declared.machine.Slot.{Slot}
-use Rattle.ring_calls.specs.declared.machine.Slot.TheVariants as slot
+use Rattle.interp_state.specs.declared.machine.Call.{Call}
+use Rattle.interp_state.specs.declared.machine.Slot.{Slot}
+use Rattle.interp_state.specs.declared.machine.Slot.TheVariants as slot
 use Rattle.module_run.specs.declared.conn.Filter.{Filter}
 use Rattle.module_run.specs.declared.conn.Conn.{Conn}
 use Rattle.module_run.specs.Conns.{filter_at, top_of}
-use Rattle.ring_calls.specs.Slots.{slot_at, name_in, marked}
+use Rattle.interp_state.specs.Slots.{slot_at, name_in, marked}
 use Rattle.module_run.specs.Stacked.{FiltersApart, is_called, named_at}
 use Rattle.run_model.specs.Pools.{is_in}
 use Rattle.module_run.proofs.Callers.{called_top, in_pushed}

@@ -6,11 +6,11 @@ use Rattle.std.specs.Vec.{with_item}
 use Rattle.std.proofs.lemmas.List.{length-set, set-get_or}
 use Rattle.std.proofs.lemmas.Option.{get_or_from_slice_get}
 use Rattle.run_model.specs.declared.bucket.Mark.TheVariants.{Usable, Passed}
-use Rattle.ring_calls.specs.declared.machine.Slot.TheVariants as slot
+use Rattle.interp_state.specs.declared.machine.Slot.TheVariants as slot
 use Rattle.module_run.specs.declared.conn.Filter.{Filter}
 use Rattle.module_run.specs.declared.conn.Conn.{Conn}
 use Rattle.module_run.specs.Conns.{filter_at, top_of}
-use Rattle.ring_calls.specs.Slots.{slot_at, marked}
+use Rattle.interp_state.specs.Slots.{slot_at, marked}
 use Rattle.module_run.specs.Stacked.{named_at}
 use Rattle.module_run.proofs.Filters.{get_here, get_other}
 use Rattle.module_run.proofs.HandsOn.{HandsOn}

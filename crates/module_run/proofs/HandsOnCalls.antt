@@ -8,18 +8,18 @@ use Rattle.module_code.specs.declared.instr.Instr.TheVariants as instr
 use Rattle.run_model.specs.declared.bucket.Mark.TheVariants.{Passed}
 use Rattle.run_model.specs.Chains.{module_at}
 use Rattle.run_model.specs.Steps.{current}
-use Rattle.ring_calls.specs.declared.machine.Call.{Call}
-use Rattle.ring_calls.specs.declared.machine.Slot.{Slot}
-use Rattle.ring_calls.specs.declared.machine.Slot.TheVariants as slot
+use Rattle.interp_state.specs.declared.machine.Call.{Call}
+use Rattle.interp_state.specs.declared.machine.Slot.{Slot}
+use Rattle.interp_state.specs.declared.machine.Slot.TheVariants as slot
 use Rattle.module_run.specs.declared.conn.Filter.{Filter}
 use Rattle.module_run.specs.declared.conn.Conn.{Conn}
 use Rattle.module_run.specs.Conns.{filter_at, call_name, waiting, top_of}
-use Rattle.ring_calls.specs.Slots.{slot_at, marked}
+use Rattle.interp_state.specs.Slots.{slot_at, marked}
 use Rattle.module_run.specs.Stacked.{AreCalled, called_of, is_called, is_waiting, named_at, names_of}
 use Rattle.run_model.specs.Pools.{is_in}
 use Rattle.std.proofs.lemmas.Option.{slice_get_within}
 use Rattle.std.proofs.lemmas.List.{length-append}
-use Rattle.ring_calls.proofs.Pushed.{pushed_in}
+use Rattle.interp_state.proofs.Pushed.{pushed_in}
 use Rattle.module_run.proofs.HandsOn.{HandsOn, FilterBefore, before, changed, same_some, no_some, called_there, called_before, named_top, named_in}
 use Rattle.module_run.proofs.Callers.{called_low, get_left, get_split, in_get, in_pushed, names_same, names_more, top_at, waits_not}
 

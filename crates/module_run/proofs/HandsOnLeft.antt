@@ -22,27 +22,27 @@ use Rattle.pool_tree.specs.Tree.{map_of}
 use Rattle.bucket_kinds.specs.declared.stored.Stored.{Stored}
 use Rattle.brigade_ops.specs.declared.store.Brigades.{Brigades}
 use Rattle.brigade_ops.specs.House.{IsHouse}
-use Rattle.stored_rings.specs.Items.{Items}
+use Rattle.bucket_store.specs.Items.{Items}
 use Rattle.brigade_ops.specs.Store.{lists, brigade_of, pool_of, references, next_name}
-use Rattle.ring_calls.specs.declared.machine.Instance.{Instance}
-use Rattle.ring_calls.specs.declared.machine.Call.{Call}
-use Rattle.ring_calls.specs.declared.machine.Slot.{Slot}
-use Rattle.ring_calls.specs.declared.machine.Slot.TheVariants as slot
+use Rattle.interp_state.specs.declared.machine.Instance.{Instance}
+use Rattle.interp_state.specs.declared.machine.Call.{Call}
+use Rattle.interp_state.specs.declared.machine.Slot.{Slot}
+use Rattle.interp_state.specs.declared.machine.Slot.TheVariants as slot
 use Rattle.module_run.specs.declared.conn.Filter.{Filter}
 use Rattle.module_run.specs.declared.conn.Conn.{Conn}
-use Rattle.ring_calls.specs.ContextViews.{ContextView}
+use Rattle.interp_state.specs.ContextViews.{ContextView}
 use Rattle.module_run.specs.Conns.{filter_at, place_in, top_of, shown_call}
-use Rattle.ring_passes.specs.Delivery.{IfElse, ReadsGiven}
-use Rattle.ring_passes.specs.Handed.{lent}
-use Rattle.ring_calls.specs.Held.{IsHeld, WasGiven}
+use Rattle.interp_calls.specs.Delivery.{IfElse, ReadsGiven}
+use Rattle.interp_calls.specs.Handed.{lent}
+use Rattle.interp_state.specs.Held.{IsHeld, WasGiven}
 use Rattle.module_run.specs.Proceeding.{IsReady, LeftAs, RefinesStep}
-use Rattle.ring_calls.specs.Seen.{seen, calls_in, is_running, shown_slot}
-use Rattle.ring_calls.specs.Slots.{name_in, live_in}
+use Rattle.interp_state.specs.Seen.{seen, calls_in, is_running, shown_slot}
+use Rattle.interp_state.specs.Slots.{name_in, live_in}
 use Rattle.module_run.specs.Stacked.{IsStacked, called_of, named_at}
 use Rattle.run_model.specs.Pools.{is_in}
 use Rattle.module_run.proofs.Callers.{called_low, first_below, in_get, not_called}
 use Rattle.module_run.proofs.CanPass.{passer, passer_alone, passes_there, names_known, next_is, not_last, next_there, next_alone}
-use Rattle.ring_calls.proofs.Changes.{ring_here, ring_off}
+use Rattle.interp_state.proofs.Changes.{ring_here, ring_off}
 use Rattle.module_run.proofs.HandsOn.{HandsOn, HasNamesBelow, changed, same_some, top_rises, apart_after, named_top}
 use Rattle.module_run.proofs.HandsOnCalls.{called_after}
 use Rattle.module_run.proofs.HandsOnSeen.{seen_after}

@@ -20,18 +20,18 @@ use Rattle.run_model.specs.State.{Configuration, items_of, set_brigade, fresh_ca
 use Rattle.run_model.specs.Chains.{Frame, Connection, Linked, configuration}
 use Rattle.run_model.specs.Passing.{handed_in, set_in, passed_to}
 use Rattle.run_model.proofs.Updates.{upd_at, upd_off}
-use Rattle.stored_rings.specs.Items.{Items}
-use Rattle.ring_calls.specs.declared.machine.Call.{Call}
-use Rattle.ring_calls.specs.declared.machine.Slot.{Slot}
-use Rattle.ring_calls.specs.declared.machine.Slot.TheVariants as slot
+use Rattle.bucket_store.specs.Items.{Items}
+use Rattle.interp_state.specs.declared.machine.Call.{Call}
+use Rattle.interp_state.specs.declared.machine.Slot.{Slot}
+use Rattle.interp_state.specs.declared.machine.Slot.TheVariants as slot
 use Rattle.module_run.specs.declared.conn.Filter.{Filter}
 use Rattle.module_run.specs.declared.conn.Conn.{Conn}
-use Rattle.ring_calls.specs.ContextViews.{ContextView}
+use Rattle.interp_state.specs.ContextViews.{ContextView}
 use Rattle.module_run.specs.Conns.{modules_of, conn_of, IsSeenAs, filter_at, call_name, top_of, runs_of, counting, stack_over, stack_of, shown_frame, shown_filter, shown_instance, shown_call, lent_by}
-use Rattle.ring_passes.specs.Handed.{lent}
-use Rattle.ring_calls.specs.Seen.{seen_over, calls_in, is_running, shown_as, shown_slot}
-use Rattle.ring_calls.specs.Slots.{slot_at}
-use Rattle.ring_calls.proofs.Changes.{name_is}
+use Rattle.interp_calls.specs.Handed.{lent}
+use Rattle.interp_state.specs.Seen.{seen_over, calls_in, is_running, shown_as, shown_slot}
+use Rattle.interp_state.specs.Slots.{slot_at}
+use Rattle.interp_state.proofs.Changes.{name_is}
 use Rattle.module_run.proofs.HandsOn.{HandsOn, HasNamesBelow, changed, top_rises}
 use Rattle.module_run.proofs.MoreCalls.{AreOlder, amid, more_slot, more_instance, more_filter, more_frame}
 use Rattle.run_model.specs.Pools.{is_in}

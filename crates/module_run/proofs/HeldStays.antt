@@ -2,11 +2,11 @@
 use Rattle.std.proofs.Common.{◌≡◌, ℕ, ◌<◌, ◌≤◌, Option, is_some, sym, ap, ◌∙◌, arith}
 use Rattle.bucket_ring.specs.declared.names.BucketId.{BucketId}
 use Rattle.bucket_ring.specs.Kept.{NoneRevived}
-use Rattle.stored_rings.specs.Items.{Items}
-use Rattle.ring_calls.specs.declared.machine.Call.{Call}
-use Rattle.ring_calls.specs.declared.machine.Instance.{Instance}
-use Rattle.ring_calls.specs.Held.{HeldOver, IsName}
-use Rattle.ring_calls.specs.Slots.{name_in}
+use Rattle.bucket_store.specs.Items.{Items}
+use Rattle.interp_state.specs.declared.machine.Call.{Call}
+use Rattle.interp_state.specs.declared.machine.Instance.{Instance}
+use Rattle.interp_state.specs.Held.{HeldOver, IsName}
+use Rattle.interp_state.specs.Slots.{name_in}
 use Rattle.module_run.proofs.ReturnedParts.{AreAsWere}
 
 pub held_stays : (at new_at : BucketId → Option ℕ) (L M : ℕ → Option Items) (p q : ℕ → Option ℕ) (k l : ℕ) (i : Instance) (call : Call) → k ≤ l → q ≡ p → NoneRevived at new_at k

@@ -29,14 +29,14 @@ use Rattle.pool_tree.specs.Tree.{map_of}
 use Rattle.bucket_kinds.specs.declared.stored.Stored.{Stored}
 use Rattle.brigade_ops.specs.declared.store.Brigades.{Brigades}
 use Rattle.brigade_ops.specs.House.{IsHouse, cleared_ring, pool_left}
-use Rattle.stored_rings.specs.Items.{Items}
+use Rattle.bucket_store.specs.Items.{Items}
 use Rattle.brigade_ops.specs.Store.{lists, brigade_of, pool_of, next_name, references}
 use Rattle.brigade_ops.proofs.Housed.{house_stays}
-use Rattle.ring_calls.specs.declared.machine.Slot.{Slot}
-use Rattle.ring_calls.specs.declared.machine.Slot.TheVariants as slot
-use Rattle.ring_calls.specs.Seen.{shown, shown_as, shown_slot}
-use Rattle.ring_calls.specs.Slots.{name_in, slot_at}
-use Rattle.ring_calls.proofs.Changes.{ring_here, ring_off}
+use Rattle.interp_state.specs.declared.machine.Slot.{Slot}
+use Rattle.interp_state.specs.declared.machine.Slot.TheVariants as slot
+use Rattle.interp_state.specs.Seen.{shown, shown_as, shown_slot}
+use Rattle.interp_state.specs.Slots.{name_in, slot_at}
+use Rattle.interp_state.proofs.Changes.{ring_here, ring_off}
 use Rattle.module_run.specs.declared.conn.Conn.{Conn}
 use Rattle.module_run.specs.declared.conn.Filter.{Filter}
 use Rattle.module_run.specs.Conns.{filter_at, lent_by, runs_of, shown_filter, shown_instance}

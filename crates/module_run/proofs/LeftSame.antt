@@ -13,7 +13,7 @@ use Rattle.pool_tree.specs.Tree.{map_of}
 use Rattle.bucket_kinds.specs.declared.stored.Stored.{Stored}
 use Rattle.brigade_ops.specs.declared.store.Brigades.{Brigades}
 use Rattle.brigade_ops.specs.House.{AreOpen, IsHouse}
-use Rattle.stored_rings.specs.Items.{Items}
+use Rattle.bucket_store.specs.Items.{Items}
 use Rattle.brigade_ops.specs.Store.{lists, brigade_of, pool_of, references, next_name}
 use Rattle.module_run.specs.declared.conn.Conn.{Conn}
 use Rattle.module_run.specs.Conns.{conn_of}

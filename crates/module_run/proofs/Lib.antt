@@ -52,7 +52,7 @@ pub mod Opens
 pub mod Outs
 pub mod Places
 pub mod PutsOut
-pub mod QuietGoes
+pub mod LocalGoes
 pub mod Refusing
 pub mod Replaced
 pub mod RequestBegins

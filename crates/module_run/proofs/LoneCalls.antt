@@ -2,11 +2,11 @@
 use Rattle.std.proofs.Common.{◌+◌, ◌≡◌, ◌≢◌, ◌⊎◌, ℕ, ◌<◌, ◌≤◌, true, false, List, length, Option, Some, None, is_some, sym, ap, ◌∙◌, inl, inr, arith, []}
 use Rattle.bucket_ring.specs.declared.names.BucketId.{BucketId}
 use Rattle.module_code.specs.Program.{Program}
-use Rattle.stored_rings.specs.Items.{Items}
+use Rattle.bucket_store.specs.Items.{Items}
 use Rattle.module_run.specs.declared.conn.Conn.{Conn}
 use Rattle.module_run.specs.declared.conn.Filter.{Filter}
 use Rattle.module_run.specs.Conns.{filter_at, top_of, waiting}
-use Rattle.ring_calls.specs.Held.{HeldOver}
+use Rattle.interp_state.specs.Held.{HeldOver}
 use Rattle.module_run.specs.Stacked.{FiltersApart, AreCalled, StackedOver, is_called, named_at}
 use Rattle.module_run.proofs.EndedLast.{CameLone, EndsLast, HasNine, came}
 use Rattle.module_run.proofs.Callers.{no_callers, alone_bottom, alone_names, alone_rises, none_in_callers}

@@ -27,21 +27,21 @@ use Rattle.run_model.specs.State.{fresh_call}
 use Rattle.run_model.specs.Turns.{brought_in}
 use Rattle.bucket_kinds.specs.declared.stored.Stored.{Stored}
 use Rattle.brigade_ops.specs.declared.store.Brigades.{Brigades}
-use Rattle.stored_rings.specs.Items.{Items, named}
+use Rattle.bucket_store.specs.Items.{Items, named}
 use Rattle.brigade_ops.specs.Store.{lists, next_name}
 use Rattle.brigade_ops.proofs.Stores.{in_listed, young}
 use Rattle.module_run.specs.declared.conn.Conn.{Conn}
 use Rattle.module_run.specs.declared.conn.Filter.{Filter}
-use Rattle.ring_calls.specs.declared.machine.Slot.{Slot}
-use Rattle.ring_calls.specs.declared.machine.Slot.TheVariants as slot
+use Rattle.interp_state.specs.declared.machine.Slot.{Slot}
+use Rattle.interp_state.specs.declared.machine.Slot.TheVariants as slot
 use Rattle.module_run.specs.CalledMain.{CalledMain, StartsWith}
 use Rattle.module_run.specs.Conns.{modules_of, call_name, conn_of, counting, filter_at, labels_handed, lengths, lent_by, runs_of, shown_call, shown_filter, shown_frame, shown_instance, stack_of, stack_over, top_of}
 use Rattle.module_run.proofs.Callers.{no_callers}
 use Rattle.module_run.specs.Conns.{place_in, waiting}
-use Rattle.ring_calls.specs.Seen.{is_running, shown, shown_as, shown_cursor, shown_slot}
-use Rattle.ring_calls.specs.Slots.{cursor_at, slot_at, name_in}
+use Rattle.interp_state.specs.Seen.{is_running, shown, shown_as, shown_cursor, shown_slot}
+use Rattle.interp_state.specs.Slots.{cursor_at, slot_at, name_in}
 use Rattle.module_run.specs.Stacked.{IsStacked}
-use Rattle.ring_passes.proofs.Begins.{items_begun}
+use Rattle.interp_calls.proofs.Begins.{items_begun}
 use Rattle.module_run.proofs.Brought.{brought_shown}
 use Rattle.module_run.proofs.FirstCalls.{no_runs, none_waits, not_lent}
 use Rattle.module_run.proofs.Tops.{filter_within, frame_at}

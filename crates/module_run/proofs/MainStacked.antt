@@ -20,23 +20,23 @@ use Rattle.pool_tree.specs.Tree.{map_of}
 use Rattle.bucket_kinds.specs.declared.stored.Stored.{Stored}
 use Rattle.brigade_ops.specs.declared.store.Brigades.{Brigades}
 use Rattle.brigade_ops.specs.House.{AreOpen}
-use Rattle.stored_rings.specs.Items.{Items, named}
+use Rattle.bucket_store.specs.Items.{Items, named}
 use Rattle.brigade_ops.specs.Store.{lists, brigade_of, pool_of, next_name, references}
 use Rattle.brigade_ops.proofs.HouseCalls.{house_paired}
 use Rattle.run_model.specs.Pieces.{bucket_of, named_from}
 use Rattle.module_run.specs.declared.conn.Conn.{Conn}
 use Rattle.module_run.specs.declared.conn.Filter.{Filter}
-use Rattle.ring_calls.specs.declared.machine.Call.{Call}
-use Rattle.ring_calls.specs.declared.machine.Instance.{Instance}
-use Rattle.ring_calls.specs.declared.machine.Slot.TheVariants as slot
-use Rattle.ring_calls.specs.declared.machine.CursorValue.TheVariants as stand
+use Rattle.interp_state.specs.declared.machine.Call.{Call}
+use Rattle.interp_state.specs.declared.machine.Instance.{Instance}
+use Rattle.interp_state.specs.declared.machine.Slot.TheVariants as slot
+use Rattle.interp_state.specs.declared.machine.CursorValue.TheVariants as stand
 use Rattle.module_run.specs.CalledMain.{CalledMain, StartsWith}
 use Rattle.module_run.specs.Conns.{top_of, conn_of, filter_at, place_in}
-use Rattle.ring_calls.specs.Held.{IsHeld, WasGiven}
+use Rattle.interp_state.specs.Held.{IsHeld, WasGiven}
 use Rattle.module_run.specs.Proceeding.{LeftAs}
-use Rattle.ring_calls.specs.Slots.{slot_at, name_in}
+use Rattle.interp_state.specs.Slots.{slot_at, name_in}
 use Rattle.module_run.specs.Stacked.{AreWhole, FiltersApart, AreCalled, IsStacked, is_called, named_at}
-use Rattle.ring_calls.proofs.Changes.{ring_here, ring_off}
+use Rattle.interp_state.proofs.Changes.{ring_here, ring_off}
 use Rattle.module_run.proofs.FirstCalls.{no_call, no_lent, not_lent, nothing_in, true_false}
 use Rattle.module_run.proofs.Callers.{no_callers, alone_bottom, alone_called, alone_names, alone_rises, called_top, none_in_callers}
 use Rattle.module_run.proofs.Looked.{some_same}

@@ -21,19 +21,19 @@ use Rattle.run_model.specs.State.{Configuration, fresh_call}
 use Rattle.run_model.specs.Chains.{Frame}
 use Rattle.bucket_kinds.specs.declared.stored.Stored.{Stored}
 use Rattle.brigade_ops.specs.declared.store.Brigades.{Brigades}
-use Rattle.stored_rings.specs.Items.{Item, Items, named_item}
+use Rattle.bucket_store.specs.Items.{Item, Items, named_item}
 use Rattle.brigade_ops.specs.Store.{lists, next_name}
 use Rattle.brigade_ops.proofs.Stores.{in_listed, young}
-use Rattle.ring_calls.specs.declared.machine.Instance.{Instance}
-use Rattle.ring_calls.specs.declared.machine.Call.{Call}
-use Rattle.ring_calls.specs.declared.machine.Slot.{Slot}
-use Rattle.ring_calls.specs.declared.machine.Slot.TheVariants as slot
+use Rattle.interp_state.specs.declared.machine.Instance.{Instance}
+use Rattle.interp_state.specs.declared.machine.Call.{Call}
+use Rattle.interp_state.specs.declared.machine.Slot.{Slot}
+use Rattle.interp_state.specs.declared.machine.Slot.TheVariants as slot
 use Rattle.module_run.specs.declared.conn.Filter.{Filter}
-use Rattle.ring_calls.specs.ContextViews.{ContextView}
-use Rattle.ring_passes.specs.Begun.{begun_as}
+use Rattle.interp_state.specs.ContextViews.{ContextView}
+use Rattle.interp_calls.specs.Begun.{begun_as}
 use Rattle.module_run.specs.Conns.{shown_instance, shown_call, shown_filter, shown_frame, lent_by}
-use Rattle.ring_calls.specs.Seen.{seen_over, calls_in, home_in, item_in, shown, shown_as, shown_slot}
-use Rattle.ring_calls.specs.Slots.{slot_at, name_in}
+use Rattle.interp_state.specs.Seen.{seen_over, calls_in, home_in, item_in, shown, shown_as, shown_slot}
+use Rattle.interp_state.specs.Slots.{slot_at, name_in}
 
 -- the buckets of these lists are older than the name k
 abbrev pub AreOlder : (ℕ → Option Items) → ℕ → Type 0

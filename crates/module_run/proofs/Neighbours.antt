@@ -15,11 +15,11 @@ use Rattle.run_model.specs.Pools.{Pools}
 use Rattle.run_model.specs.State as model
 use Rattle.bucket_kinds.specs.declared.stored.Stored.{Stored}
 use Rattle.brigade_ops.specs.declared.store.Brigades.{Brigades}
-use Rattle.stored_rings.specs.Items.{Items}
+use Rattle.bucket_store.specs.Items.{Items}
 use Rattle.brigade_ops.specs.Store.{lists, brigade_of, pool_of, next_name}
-use Rattle.ring_calls.specs.Held.{IsHeld, IsName}
-use Rattle.ring_calls.specs.Seen.{shown}
-use Rattle.ring_calls.specs.Slots.{name_in, slot_at}
+use Rattle.interp_state.specs.Held.{IsHeld, IsName}
+use Rattle.interp_state.specs.Seen.{shown}
+use Rattle.interp_state.specs.Slots.{name_in, slot_at}
 use Rattle.module_run.specs.declared.conn.Conn.{Conn}
 use Rattle.module_run.specs.declared.conn.Filter.{Filter}
 use Rattle.module_run.specs.Conns.{conn_of, filter_at, lent_by, runs_of, shown_filter, shown_frame, shown_instance, stack_of, stack_over, top_of}

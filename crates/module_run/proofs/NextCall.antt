@@ -13,17 +13,17 @@ use Rattle.run_model.specs.Chains.{Frame}
 use Rattle.run_model.specs.State.{fresh_call}
 use Rattle.bucket_kinds.specs.declared.stored.Stored.{Stored}
 use Rattle.brigade_ops.specs.declared.store.Brigades.{Brigades}
-use Rattle.stored_rings.specs.Items.{Items}
+use Rattle.bucket_store.specs.Items.{Items}
 use Rattle.brigade_ops.specs.Store.{lists, next_name}
 use Rattle.brigade_ops.proofs.Stores.{in_listed, young}
 use Rattle.module_run.specs.declared.conn.Filter.{Filter}
-use Rattle.ring_calls.specs.declared.machine.Slot.{Slot}
-use Rattle.ring_calls.specs.declared.machine.Slot.TheVariants as slot
-use Rattle.ring_passes.specs.Begun.{IsBegun}
+use Rattle.interp_state.specs.declared.machine.Slot.{Slot}
+use Rattle.interp_state.specs.declared.machine.Slot.TheVariants as slot
+use Rattle.interp_calls.specs.Begun.{IsBegun}
 use Rattle.module_run.specs.Conns.{lent_by, shown_filter, shown_frame, shown_instance}
-use Rattle.ring_calls.specs.Seen.{is_running, shown, shown_as, shown_cursor, shown_slot}
-use Rattle.ring_calls.specs.Slots.{name_in, slot_at}
-use Rattle.ring_passes.proofs.Begins.{items_begun}
+use Rattle.interp_state.specs.Seen.{is_running, shown, shown_as, shown_cursor, shown_slot}
+use Rattle.interp_state.specs.Slots.{name_in, slot_at}
+use Rattle.interp_calls.proofs.Begins.{items_begun}
 use Rattle.module_run.proofs.ReturnedParts.{AreAsWere}
 
 module _ {R : Type 0} {g : Ghosts R Stored} (store : Brigades R g) (M : ℕ → Option Items) where

@@ -23,13 +23,13 @@ use Rattle.brigade_ops.specs.declared.store.Brigades.{Brigades}
 use Rattle.brigade_ops.specs.Store.{lists, brigade_of, pool_of, references, next_name}
 use Rattle.module_run.specs.declared.conn.Conn.{Conn}
 use Rattle.module_run.specs.declared.conn.Filter.{Filter}
-use Rattle.ring_calls.specs.declared.machine.Instance.{Instance}
-use Rattle.ring_calls.specs.declared.machine.CursorValue.TheVariants as stand
-use Rattle.ring_passes.specs.Begun.{IsBegun}
+use Rattle.interp_state.specs.declared.machine.Instance.{Instance}
+use Rattle.interp_state.specs.declared.machine.CursorValue.TheVariants as stand
+use Rattle.interp_calls.specs.Begun.{IsBegun}
 use Rattle.module_run.specs.Conns.{modules_of, call_name, conn_of, counting, filter_at, runs_of, shown_filter, shown_frame, stack_of, stack_over, top_of, waiting}
-use Rattle.ring_calls.specs.Held.{IsHeld}
+use Rattle.interp_state.specs.Held.{IsHeld}
 use Rattle.module_run.specs.Proceeding.{IsReady, RefinesReturn}
-use Rattle.ring_calls.specs.Seen.{is_running}
+use Rattle.interp_state.specs.Seen.{is_running}
 use Rattle.module_run.specs.Stacked.{is_called}
 use Rattle.module_run.proofs.EndedLast.{EndsLast, each_left, idle, left_as, stays, stays_after, waits_none}
 use Rattle.module_run.proofs.Finishing.{led, new_free, nine, returned_so}

@@ -26,20 +26,20 @@ use Rattle.pool_tree.specs.Tree.{map_of}
 use Rattle.bucket_kinds.specs.declared.stored.Stored.{Stored}
 use Rattle.brigade_ops.specs.declared.store.Brigades.{Brigades}
 use Rattle.brigade_ops.specs.House.{AreHoused, AreOpen, IsHouse}
-use Rattle.stored_rings.specs.Items.{Items}
+use Rattle.bucket_store.specs.Items.{Items}
 use Rattle.brigade_ops.specs.Store.{lists, brigade_of, pool_of, next_name, references}
 use Rattle.brigade_ops.proofs.Housed.{house_created}
 use Rattle.module_run.specs.declared.conn.Conn.{Conn}
 use Rattle.module_run.specs.declared.conn.Filter.{Filter}
 use Rattle.module_run.specs.declared.conn.OpenFile.{OpenFile}
-use Rattle.ring_calls.specs.declared.machine.Instance.{Instance}
+use Rattle.interp_state.specs.declared.machine.Instance.{Instance}
 use Rattle.module_run.specs.CalledFirst.{CalledFirst}
 use Rattle.module_run.specs.Conns.{modules_of, conn_of, counting, filter_at, labels_handed, lengths, lent_by, runs_of, shown_filter, shown_instance, stack_of, stack_over, top_of, waiting}
 use Rattle.module_run.specs.Neighbours.{ComesBeside, HoldsName}
 use Rattle.module_run.specs.Opening.{CanOpen, IsNewConn, IsNewFilter, over}
 use Rattle.module_run.specs.Proceeding.{LeftAs}
-use Rattle.ring_calls.specs.Seen.{shown_slot}
-use Rattle.ring_calls.specs.Slots.{slot_at, name_in}
+use Rattle.interp_state.specs.Seen.{shown_slot}
+use Rattle.interp_state.specs.Slots.{slot_at, name_in}
 use Rattle.module_run.specs.Stacked.{FiltersApart, AreCalled, IsStacked, is_called, named_at, is_waiting}
 use Rattle.module_run.proofs.FirstCalls.{no_lent, true_false}
 use Rattle.module_run.proofs.FirstStacked.{left_called}
@@ -47,9 +47,9 @@ use Rattle.module_run.proofs.Callers.{alone_bottom, alone_names, alone_rises, no
 use Rattle.module_run.proofs.Looked.{some_same}
 use Rattle.module_run.proofs.Tops.{filter_within, frame_at}
 use Rattle.module_run.proofs.Unchanged.{next_off_pools, off_pools}
-use Rattle.ring_calls.proofs.Changes.{ring_off}
+use Rattle.interp_state.proofs.Changes.{ring_off}
 use Rattle.std.proofs.lemmas.Bool.{cases_eq}
-use Rattle.ring_run.specs.declared.labels_run.LabelsRun.{LabelsRun}
+use Rattle.interp_exec.specs.declared.labels_run.LabelsRun.{LabelsRun}
 
 pub all_pushed : {X : Type 0} (T : X → Type 0) (xs : List X) (x : X) → ((k : ℕ) (y : X) → slice_get xs k ≡ Some y → T y) → T x → (k : ℕ) (y : X) → slice_get (xs ++ x ∷ []) k ≡ Some y → T y
 all_pushed T [] x each last zero y is = subst T (some_same x y is) last

@@ -5,11 +5,11 @@ use Rattle.module_code.specs.Program.{Program}
 use Rattle.run_model.specs.declared.payload.Payload.{Payload}
 use Rattle.run_model.specs.Chains.{Connection, Linked}
 use Rattle.run_model.specs.Pools.{Pools}
-use Rattle.stored_rings.specs.Items.{Items}
+use Rattle.bucket_store.specs.Items.{Items}
 use Rattle.std.specs.Prelude.{Option}
 use Rattle.module_run.specs.declared.conn.Conn.{Conn}
 use Rattle.module_run.specs.Conns.{conn_of, filter_at, IsSeenAs}
-use Rattle.ring_passes.specs.Delivery.{out_of}
+use Rattle.interp_calls.specs.Delivery.{out_of}
 use Rattle.module_run.specs.Stacked.{FiltersApart, AreCalled, StackedOver}
 
 module _ (c : Conn) (out : List ℕ) (ended : Bool) where

@@ -4,7 +4,7 @@ use Rattle.std.specs.Prelude.{if◌then◌else◌}
 use Rattle.module_code.specs.Program.{Program}
 use Rattle.run_model.specs.Chains.{first_staying, place_from}
 use Rattle.run_model.specs.State as model
-use Rattle.stored_rings.specs.Items.{Items}
+use Rattle.bucket_store.specs.Items.{Items}
 use Rattle.module_run.specs.declared.conn.Conn.{Conn}
 use Rattle.module_run.specs.declared.conn.Filter.{Filter}
 use Rattle.module_run.specs.Conns.{filter_at, lent_by, place_in, runs_of, shown_filter, shown_instance}

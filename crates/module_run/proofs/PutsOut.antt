@@ -25,9 +25,9 @@ use Rattle.pool_tree.specs.Tree.{map_of}
 use Rattle.bucket_kinds.specs.declared.stored.Stored.{Stored}
 use Rattle.brigade_ops.specs.declared.store.Brigades.{Brigades}
 use Rattle.brigade_ops.specs.Store.{lists, brigade_of, pool_of, next_name}
-use Rattle.ring_calls.specs.ContextViews.{ContextView}
-use Rattle.ring_calls.specs.Seen.{seen, seen_over}
-use Rattle.ring_passes.specs.Delivery.{IfElse, ReadsGiven, out_of}
+use Rattle.interp_state.specs.ContextViews.{ContextView}
+use Rattle.interp_state.specs.Seen.{seen, seen_over}
+use Rattle.interp_calls.specs.Delivery.{IfElse, ReadsGiven, out_of}
 use Rattle.module_run.specs.declared.conn.Conn.{Conn}
 use Rattle.module_run.specs.declared.conn.Filter.{Filter}
 use Rattle.module_run.specs.Conns.{conn_of, filter_at, top_of}

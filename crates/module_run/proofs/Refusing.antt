@@ -11,7 +11,7 @@ use Rattle.run_model.specs.Refusals.{first_refusal, refused_if}
 use Rattle.run_model.specs.Pools.{Pools}
 use Rattle.run_model.specs.Steps.{is_spent}
 use Rattle.run_model.specs.Turns.{Failing, Found, Missing, Opening, begins, begun, brings, brought, ended, ends, file_answer, is_busy, is_failing, is_missing, number_given, opens_file, unless_refused}
-use Rattle.stored_rings.specs.Items.{Items}
+use Rattle.bucket_store.specs.Items.{Items}
 use Rattle.module_run.specs.declared.conn.Conn.{Conn}
 use Rattle.module_run.specs.Conns.{conn_of, IsSeenAs, lengths, stack_of, stack_over}
 use Rattle.module_run.specs.Refused.{begin_tests, bring_tests, request_tests}

@@ -1,7 +1,7 @@
 -- A call returned to the one that waits, by the lists of filters and names.
 use Rattle.module_code.specs.Program.{Program}
 use Rattle.run_model.specs.Pools.{is_in}
-use Rattle.ring_calls.proofs.Pushed.{pushed_in}
+use Rattle.interp_state.proofs.Pushed.{pushed_in}
 use Rattle.module_run.proofs.Callers.{names_more, take_all, waits_below}
 use Rattle.module_run.specs.Stacked.{AreCalled, names_of}
 use Rattle.std.proofs.Common.{◌≡◌, ◌≢◌, ℕ, zero, suc, ◌-◌, ◌<◌, List, length, set, take, Some, refl, sym, ap, ◌∙◌, arith, [], ◌∷◌, ◌++◌, Option}

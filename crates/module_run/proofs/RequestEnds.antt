@@ -24,28 +24,28 @@ use Rattle.pool_tree.specs.declared.tree.PoolTree.{PoolTree}
 use Rattle.pool_tree.specs.Tree.{map_of}
 use Rattle.bucket_kinds.specs.declared.stored.Stored.{Stored}
 use Rattle.brigade_ops.specs.declared.store.Brigades.{Brigades}
-use Rattle.stored_rings.specs.Items.{Items}
+use Rattle.bucket_store.specs.Items.{Items}
 use Rattle.brigade_ops.specs.House.{cleared_ring}
 use Rattle.brigade_ops.specs.Store.{lists, brigade_of, pool_of, next_name}
 use Rattle.module_run.specs.declared.conn.Conn.{Conn}
 use Rattle.module_run.specs.declared.conn.Filter.{Filter}
 use Rattle.module_run.specs.declared.conn.OpenFile.{OpenFile}
-use Rattle.ring_run.specs.Cleared.{LooksAt}
+use Rattle.interp_exec.specs.Cleared.{LooksAt}
 use Rattle.module_run.specs.Conns.{modules_of, IsSeenAs, call_name, conn_of, counting, filter_at, labels_handed, lengths, lent_by, runs_of, shown_filter, shown_instance, stack_of, stack_over, top_of, waiting}
 use Rattle.module_run.specs.Destroyed.{WasDestroyed, quieted, request_left}
-use Rattle.ring_calls.specs.Held.{IsHeld}
+use Rattle.interp_state.specs.Held.{IsHeld}
 use Rattle.module_run.specs.Proceeding.{HasOpen, LeftAs, MayHold}
-use Rattle.ring_calls.specs.Seen.{is_running, shown_slot}
-use Rattle.ring_calls.specs.Slots.{slot_at, name_in}
+use Rattle.interp_state.specs.Seen.{is_running, shown_slot}
+use Rattle.interp_state.specs.Slots.{slot_at, name_in}
 use Rattle.module_run.specs.Stacked.{IsStacked, is_called, named_at, is_waiting}
-use Rattle.ring_run.proofs.Cleared.{by_slot, held_cleared}
+use Rattle.interp_exec.proofs.Cleared.{by_slot, held_cleared}
 use Rattle.module_run.proofs.FirstCalls.{no_call, no_lent, not_lent, nothing_in, none_waits, true_false}
 use Rattle.module_run.proofs.Callers.{alone_names, none_in_callers}
-use Rattle.ring_calls.proofs.HeldAlike.{held_slots}
+use Rattle.interp_state.proofs.HeldAlike.{held_slots}
 use Rattle.module_run.proofs.Looked.{some_same}
 use Rattle.module_run.proofs.Tops.{frame_at}
 use Rattle.module_run.proofs.RequestBegins.{conn_is, pools_are}
-use Rattle.ring_run.specs.declared.labels_run.LabelsRun.{LabelsRun}
+use Rattle.interp_exec.specs.declared.labels_run.LabelsRun.{LabelsRun}
 
 pub quiet_length : (xs : List Filter) → length (map quieted xs) ≡ length xs
 quiet_length [] = refl

@@ -20,15 +20,15 @@ use Rattle.run_model.specs.Passing.{given_back}
 use Rattle.run_model.specs.State as model
 use Rattle.run_model.specs.State.{items_of}
 use Rattle.run_model.proofs.Updates.{upd_either, upd_at, upd_off}
-use Rattle.stored_rings.specs.Items.{Items}
+use Rattle.bucket_store.specs.Items.{Items}
 use Rattle.module_run.specs.declared.conn.Filter.{Filter}
-use Rattle.ring_calls.specs.declared.machine.Instance.{Instance}
-use Rattle.ring_calls.specs.declared.machine.Slot.{Slot}
-use Rattle.ring_calls.specs.declared.machine.Slot.TheVariants as slot
+use Rattle.interp_state.specs.declared.machine.Instance.{Instance}
+use Rattle.interp_state.specs.declared.machine.Slot.{Slot}
+use Rattle.interp_state.specs.declared.machine.Slot.TheVariants as slot
 use Rattle.module_run.specs.Conns.{lent_by, shown_call, shown_filter, shown_frame, shown_instance}
-use Rattle.ring_calls.specs.Seen.{shown, shown_as, shown_slot}
-use Rattle.ring_calls.specs.Slots.{SameButSlots, marked, name_in, slot_at}
-use Rattle.ring_passes.proofs.Returned.{RunsWithout, returned_items, returned_slot}
+use Rattle.interp_state.specs.Seen.{shown, shown_as, shown_slot}
+use Rattle.interp_state.specs.Slots.{SameButSlots, marked, name_in, slot_at}
+use Rattle.interp_calls.proofs.Returned.{RunsWithout, returned_items, returned_slot}
 
 -- the brigades of an instance are as they were
 abbrev pub AreAsWere : (ℕ → Option Items) → (ℕ → Option Items) → Instance → Type 0

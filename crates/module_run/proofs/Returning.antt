@@ -24,9 +24,9 @@ use Rattle.brigade_ops.specs.Store.{lists, brigade_of, pool_of, references, next
 use Rattle.module_run.specs.declared.conn.Conn.{Conn}
 use Rattle.module_run.specs.declared.conn.Filter.{Filter}
 use Rattle.module_run.specs.Conns.{conn_of, filter_at, runs_of, shown_frame, stack_over, top_of}
-use Rattle.ring_calls.specs.Held.{IsHeld}
+use Rattle.interp_state.specs.Held.{IsHeld}
 use Rattle.module_run.specs.Proceeding.{IsReady, RefinesReturn, LeftAs}
-use Rattle.ring_calls.proofs.Changes.{ring_off}
+use Rattle.interp_state.proofs.Changes.{ring_off}
 use Rattle.module_run.proofs.Callers.{over_pushed}
 use Rattle.module_run.proofs.GivenBack.{GivesBack, returned_is, runs_top, with_calls}
 use Rattle.module_run.proofs.StackedBack.{stacked_back}

@@ -15,15 +15,15 @@ use Rattle.pool_tree.specs.declared.tree.PoolTree.{PoolTree}
 use Rattle.pool_tree.specs.Tree.{map_of}
 use Rattle.bucket_kinds.specs.declared.stored.Stored.{Stored}
 use Rattle.brigade_ops.specs.declared.store.Brigades.{Brigades}
-use Rattle.stored_rings.specs.Items.{Items}
+use Rattle.bucket_store.specs.Items.{Items}
 use Rattle.brigade_ops.specs.Store.{lists, brigade_of, pool_of, references, next_name}
 use Rattle.module_run.specs.declared.conn.Filter.{Filter}
 use Rattle.module_run.specs.declared.conn.Conn.{Conn}
 use Rattle.module_run.specs.Conns.{conn_of, filter_at, call_name, top_of, stack_over, shown_frame, shown_filter, counting}
 use Rattle.module_run.specs.Proceeding.{LeftAs}
-use Rattle.ring_calls.specs.Seen.{is_running}
+use Rattle.interp_state.specs.Seen.{is_running}
 use Rattle.module_run.specs.Stacked.{AreWhole, FiltersApart, AreCalled, IsStacked, called_of, is_called, is_waiting, names_of}
-use Rattle.ring_calls.proofs.Names.{held_kept, no_less, still_same}
+use Rattle.interp_state.proofs.Names.{held_kept, no_less, still_same}
 use Rattle.run_model.specs.Pools.{is_in}
 use Rattle.module_run.proofs.Callers.{names_same}
 

@@ -10,22 +10,22 @@ use Rattle.module_code.specs.declared.instr.Status.{Status}
 use Rattle.run_model.specs.declared.bucket.Mark.TheVariants.{Passed}
 use Rattle.run_model.specs.Chains.{module_at}
 use Rattle.run_model.specs.Steps.{current}
-use Rattle.stored_rings.specs.Items.{Items}
+use Rattle.bucket_store.specs.Items.{Items}
 use Rattle.module_run.specs.declared.conn.Conn.{Conn}
 use Rattle.module_run.specs.declared.conn.Filter.{Filter}
-use Rattle.ring_calls.specs.declared.machine.Call.{Call}
-use Rattle.ring_calls.specs.declared.machine.Instance.{Instance}
-use Rattle.ring_calls.specs.declared.machine.Slot.TheVariants as slot
+use Rattle.interp_state.specs.declared.machine.Call.{Call}
+use Rattle.interp_state.specs.declared.machine.Instance.{Instance}
+use Rattle.interp_state.specs.declared.machine.Slot.TheVariants as slot
 use Rattle.module_run.specs.Conns.{call_name, filter_at, top_of}
-use Rattle.ring_calls.specs.Held.{HeldOver}
-use Rattle.ring_calls.specs.Slots.{marked, name_in, slot_at}
+use Rattle.interp_state.specs.Held.{HeldOver}
+use Rattle.interp_state.specs.Slots.{marked, name_in, slot_at}
 use Rattle.module_run.specs.Stacked.{FiltersApart, AreCalled, StackedOver, is_called, is_waiting, called_of, named_at, names_of}
 use Rattle.module_run.proofs.GivenBack.{GivesBack, alone, left_below, loose_stays, many_callers, stays, w_below, with_calls}
 use Rattle.run_model.specs.Pools.{is_in}
 use Rattle.std.specs.Prelude.{if◌then◌else◌, slice_get}
-use Rattle.ring_calls.proofs.Pushed.{pushed_only}
+use Rattle.interp_state.proofs.Pushed.{pushed_only}
 use Rattle.module_run.proofs.Callers.{get_in, get_left, get_split, in_pushed, names_same, off_in, waits_below}
-use Rattle.ring_calls.proofs.HeldAlike.{held_cursors}
+use Rattle.interp_state.proofs.HeldAlike.{held_cursors}
 use Rattle.module_run.proofs.HeldStays.{held_stays}
 use Rattle.module_run.proofs.Known.{some_is}
 
@@ -281,10 +281,10 @@ module _ (chain : List Program) (s : Status) (at new_at : BucketId → Option �
         (stays chain s at L M pools next c filters callers waits w st x k f is) (λ pos. loose_stays chain s at L M pools next c filters callers waits w st x k f is ne) (st.held k f is)
 
     held_wait : HeldOver new_at M new_pools new_next x.resumed.instance x.resumed.call
-    unfolding Rattle.ring_calls.specs.Slots.cursor_at
+    unfolding Rattle.interp_state.specs.Slots.cursor_at
     held_wait = subst (λ (i : Instance). HeldOver new_at M new_pools new_next i x.resumed.call) (sym x.instance)
         (held_cursors new_at M new_pools new_next x.wait.instance x.wait.call x.resumed.call (ap (λ (k : Call). k.name) x.call)
-        (λ n. ap (λ (k : Call). Rattle.ring_calls.specs.Slots.cursor_at k n) x.call)
+        (λ n. ap (λ (k : Call). Rattle.interp_state.specs.Slots.cursor_at k n) x.call)
         (held_same w x.wait x.below (λ e. let low = w_below chain s at L M pools next c filters callers waits w st x in omega (arith, e, low))))
 
     held_each : (k : ℕ) (f : Filter) → filter_at d k ≡ Some f → HeldOver new_at M new_pools new_next f.instance f.call

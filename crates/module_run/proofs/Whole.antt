@@ -5,7 +5,7 @@ use Rattle.run_model.specs.declared.bucket.NamedBucket.{NamedBucket}
 use Rattle.run_model.specs.declared.event.Piece.{Piece}
 use Rattle.run_model.specs.declared.event.Piece.TheVariants as piece
 use Rattle.run_model.specs.Pieces.{bucket_of, named_from}
-use Rattle.stored_rings.specs.Items.{Item, Items, named}
+use Rattle.bucket_store.specs.Items.{Item, Items, named}
 use Rattle.module_run.specs.Stacked.{AreWhole, IsWhole}
 
 first_same : (a b : NamedBucket) (xs ys : List NamedBucket) → a ∷ xs ≡ b ∷ ys → a ≡ b

@@ -17,14 +17,14 @@ use Rattle.run_model.specs.Chains.{Frame, Linked}
 use Rattle.run_model.specs.State.{items_of}
 use Rattle.pool_tree.specs.declared.tree.PoolTree.{PoolTree}
 use Rattle.pool_tree.specs.Tree.{map_of}
-use Rattle.stored_rings.specs.Items.{Item, Items}
+use Rattle.bucket_store.specs.Items.{Item, Items}
 use Rattle.brigade_ops.specs.declared.store.Brigades.{Brigades}
 use Rattle.brigade_ops.specs.Store.{lists, next_name}
-use Rattle.ring_calls.specs.Given.{HasOpenAlive, RangeIsOpen}
-use Rattle.ring_calls.specs.Seen.{calls_in, home_in, seen, shown}
-use Rattle.ring_calls.specs.Slots.{live_in, name_in, slot_at}
-use Rattle.ring_calls.proofs.Changes.{live_is}
-use Rattle.ring_calls.proofs.Items.{items_dead, items_live}
+use Rattle.interp_state.specs.Given.{HasOpenAlive, RangeIsOpen}
+use Rattle.interp_state.specs.Seen.{calls_in, home_in, seen, shown}
+use Rattle.interp_state.specs.Slots.{live_in, name_in, slot_at}
+use Rattle.interp_state.proofs.Changes.{live_is}
+use Rattle.interp_state.proofs.Items.{items_dead, items_live}
 use Rattle.module_run.specs.declared.conn.Conn.{Conn}
 use Rattle.module_run.specs.declared.conn.Filter.{Filter}
 use Rattle.module_run.specs.Conns.{filter_at, top_of}

@@ -3,11 +3,11 @@ use Rattle.std.specs.Prelude.{◌≡◌, ◌≢◌, ℕ, true, List, [], length,
 use Rattle.module_code.specs.Program.{Program}
 use Rattle.run_model.specs.Chains.{module_at}
 use Rattle.run_model.specs.Passing.{handler_at}
-use Rattle.ring_calls.specs.declared.machine.CursorValue.TheVariants.{Unset}
+use Rattle.interp_state.specs.declared.machine.CursorValue.TheVariants.{Unset}
 use Rattle.module_run.specs.declared.conn.Filter.{Filter}
 use Rattle.module_run.specs.declared.conn.Conn.{Conn}
 use Rattle.module_run.specs.Conns.{filter_at}
-use Rattle.ring_calls.specs.Slots.{cursor_at}
+use Rattle.interp_state.specs.Slots.{cursor_at}
 
 -- A call of this name begins in a filter, at this instruction.
 pub record CallStarts (name pc : ℕ) (f e : Filter) : Type 0 where

@@ -3,12 +3,12 @@ use Rattle.std.specs.Prelude.{◌≡◌, ◌≢◌, ◌==◌, ℕ, true, List, [
 use Rattle.module_code.specs.Program.{Program}
 use Rattle.run_model.specs.declared.bucket.Mark.TheVariants.{Usable}
 use Rattle.run_model.specs.Chains.{module_at}
-use Rattle.ring_calls.specs.declared.machine.Slot.TheVariants.{Made}
-use Rattle.ring_calls.specs.declared.machine.CursorValue.TheVariants.{Unset}
+use Rattle.interp_state.specs.declared.machine.Slot.TheVariants.{Made}
+use Rattle.interp_state.specs.declared.machine.CursorValue.TheVariants.{Unset}
 use Rattle.module_run.specs.declared.conn.Filter.{Filter}
 use Rattle.module_run.specs.declared.conn.Conn.{Conn}
 use Rattle.module_run.specs.Conns.{filter_at}
-use Rattle.ring_calls.specs.Slots.{SameButSlots, cursor_at, slot_at}
+use Rattle.interp_state.specs.Slots.{SameButSlots, cursor_at, slot_at}
 
 -- A call of this name begins in a filter, at this instruction, and this brigade is its `in`.
 pub record StartsWith (name brigade pc : ℕ) (f e : Filter) : Type 0 where

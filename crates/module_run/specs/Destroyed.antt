@@ -22,7 +22,7 @@ use Rattle.module_run.specs.declared.conn.OpenFile.{OpenFile}
 use Rattle.module_run.specs.Conns.{filter_at}
 use Rattle.module_run.specs.Neighbours.{HoldsName}
 use Rattle.module_run.specs.Stacked.{named_at}
-use Rattle.ring_run.specs.declared.labels_run.LabelsRun.{LabelsRun}
+use Rattle.interp_exec.specs.declared.labels_run.LabelsRun.{LabelsRun}
 
 -- in the next request no EOS was passed, and it is in its chain
 abbrev pub quieted : Filter → Filter

@@ -13,13 +13,13 @@ use Rattle.pool_tree.specs.Tree.{map_of}
 use Rattle.bucket_kinds.specs.declared.stored.Stored.{Stored}
 use Rattle.brigade_ops.specs.declared.store.Brigades.{Brigades}
 use Rattle.brigade_ops.specs.House.{IsHouse}
-use Rattle.stored_rings.specs.Items.{Items}
+use Rattle.bucket_store.specs.Items.{Items}
 use Rattle.brigade_ops.specs.Store.{lists, brigade_of, pool_of, next_name, references}
 use Rattle.module_run.specs.declared.conn.Conn.{Conn}
 use Rattle.module_run.specs.declared.conn.Filter.{Filter}
-use Rattle.ring_calls.specs.declared.machine.Slot.TheVariants as slot
-use Rattle.ring_calls.specs.Held.{HeldOver}
-use Rattle.ring_calls.specs.Slots.{slot_at}
+use Rattle.interp_state.specs.declared.machine.Slot.TheVariants as slot
+use Rattle.interp_state.specs.Held.{HeldOver}
+use Rattle.interp_state.specs.Slots.{slot_at}
 
 -- Nothing is in its variables, it has no call, and lends nothing.
 pub record IsNewFilter (f : Filter) : Type 0 where

@@ -1,9 +1,9 @@
 //! A connection: a filter for each module of its chain, and the calls that run.
 
 use brigade_ops::{BrigadeId, FileNo, PoolId};
-use ring_calls::machine::{Call, Instance};
-use ring_passes::OutputBlock;
-use ring_run::labels_run::LabelsRun;
+use interp_calls::OutputBlock;
+use interp_exec::labels_run::LabelsRun;
+use interp_state::machine::{Call, Instance};
 use run_model::Cause;
 use std::alloc::Global;
 

@@ -6,7 +6,7 @@ ghost use Rattle.module_run.specs.Prelude.{Stands, lasted, refusal_of, LeavesOth
 
 use crate::conn::Conn;
 use brigade_ops::{BrigadeId, Brigades, PoolId, PoolTree, Rings, Stored};
-use ring_calls::asks::is_spent;
+use interp_state::asks::is_spent;
 use run_model::{Module, Payload, Refusal};
 use std::alloc::AllocError;
 

@@ -8,7 +8,7 @@ ghost use Rattle.run_model.specs.Chains.{module_at};
 use crate::conn::{Conn, Filter};
 use crate::pieces::{buckets_of, has_data_behind_eos, lack_files};
 use brigade_ops::{BrigadeId, Brigades, PoolId, Rings, Stored};
-use ring_calls::machine::Slot;
+use interp_state::machine::Slot;
 use run_model::{Mark, Module, Piece, Refusal, Seq};
 use std::alloc::{AllocError, Global};
 

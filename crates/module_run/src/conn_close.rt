@@ -8,8 +8,8 @@ ghost use Rattle.module_run.specs.declared.conn.Filter.{Filter};
 
 use crate::conn::{Conn, Filter};
 use brigade_ops::{BrigadeId, Brigades, ClearKind, Files, PoolTree, Rings, Stored};
-use ring_calls::machine::Slot;
-use ring_run::labels::add_labels;
+use interp_exec::labels::add_labels;
+use interp_state::machine::Slot;
 use run_model::Payload;
 use std::alloc::AllocError;
 

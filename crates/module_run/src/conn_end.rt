@@ -7,7 +7,7 @@ ghost use Rattle.module_run.specs.Prelude.{request_tests};
 
 use crate::conn::{Conn, Filter};
 use brigade_ops::{Brigades, ClearKind, Files, PoolId, PoolTree, Rings, Stored};
-use ring_run::labels::add_labels;
+use interp_exec::labels::add_labels;
 use run_model::{Payload, Refusal};
 use std::alloc::AllocError;
 

@@ -7,9 +7,9 @@ ghost use Rattle.module_run.specs.Prelude.{LeftAs};
 use crate::conn::{Conn, Filter};
 use crate::conn_begin::call_and_pool;
 use brigade_ops::{Brigades, PoolId, PoolTree, Rings, Stored};
-use ring_calls::asks::is_spent;
-use ring_calls::machine::{Call, Instance};
-use ring_passes::OutputBlock;
+use interp_calls::OutputBlock;
+use interp_state::asks::is_spent;
+use interp_state::machine::{Call, Instance};
 use run_model::{Module, Payload, StepRefusal};
 use std::alloc::{AllocError, Global};
 

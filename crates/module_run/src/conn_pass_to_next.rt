@@ -7,8 +7,8 @@ ghost use Rattle.module_run.specs.Prelude.{place_in, slot_at};
 
 use crate::conn::{Conn, Filter};
 use brigade_ops::{BrigadeId, Brigades, RingRefusal, Rings, Stored};
-use ring_passes::calls::begin_call;
-use ring_passes::passes::{hand_over, take_in};
+use interp_calls::calls::begin_call;
+use interp_calls::passes::{hand_over, take_in};
 use run_model::{Instr, Mark, Module, Stepped};
 use std::alloc::AllocError;
 

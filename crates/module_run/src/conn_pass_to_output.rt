@@ -6,7 +6,7 @@ ghost use Rattle.module_run.specs.Prelude.{RefinesStep, LeftAs};
 
 use crate::conn::Conn;
 use brigade_ops::{Brigades, Files, Rings, Stored};
-use ring_passes::output::pass_out;
+use interp_calls::output::pass_out;
 use run_model::{Instr, Stepped};
 use std::alloc::AllocError;
 

@@ -5,7 +5,7 @@ ghost use Rattle.module_run.specs.Prelude.{Program, SomeWentWell, Pools, Frame, 
 
 use crate::conn::Conn;
 use brigade_ops::{Brigades, Files, PoolTree, Rings, Stored};
-use ring_passes::output::put_out;
+use interp_calls::output::put_out;
 use run_model::{Instr, Module, Payload, Status, Stepped};
 use std::alloc::AllocError;
 

@@ -2,7 +2,7 @@
 
 ghost use Rattle.std.specs.Prelude.{◌≡◌, ◌⊎◌, ℕ, true, false, Some, IsOk, IfOk, OnOk, OnErr};
 ghost use Rattle.run_model.specs.Pools.{is_in};
-ghost use Rattle.ring_run.specs.Apart.{clears_pool};
+ghost use Rattle.interp_exec.specs.Apart.{clears_pool};
 ghost use Rattle.module_run.specs.declared.conn.Filter.{Filter};
 
 use crate::conn::{Conn, Filter};

@@ -4,10 +4,10 @@ ghost use Rattle.std.specs.Prelude.{◌≡◌, [], ℕ, Option, List};
 ghost use Rattle.module_run.specs.Prelude.{BucketId, Program, Pools, Items, conn_of, labels_handed, StackedOver};
 
 use crate::conn::Conn;
-use block_bytes::BlockBytes;
 use brigade_ops::PoolId;
-use ring_passes::OutputBlock;
-use ring_run::labels_run::LabelsRun;
+use byte_text::BlockBytes;
+use interp_calls::OutputBlock;
+use interp_exec::labels_run::LabelsRun;
 use run_model::Payload;
 use std::mem;
 

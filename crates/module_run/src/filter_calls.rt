@@ -5,8 +5,8 @@ ghost use Rattle.module_run.specs.Prelude.{NoneRevived, upd, lists, brigade_of, 
 
 use crate::conn::Filter;
 use brigade_ops::{BrigadeId, Brigades, Rings, Stored};
-use ring_calls::machine::Slot;
-use ring_passes::calls::end_call;
+use interp_calls::calls::end_call;
+use interp_state::machine::Slot;
 
 impl Filter {
     /// Its call returns.

@@ -10,12 +10,12 @@ mod conn_close;
 mod conn_end;
 mod conn_execute;
 mod conn_file;
+mod conn_local;
 mod conn_open;
 mod conn_pass_to_next;
 mod conn_pass_to_output;
 mod conn_places;
 mod conn_put_out;
-mod conn_quiet;
 mod conn_return;
 mod conn_return_last;
 mod conn_return_to_caller;
@@ -29,10 +29,14 @@ mod look;
 mod pieces;
 
 pub use brigade_ops::{
-    BrigadeId, Brigades, BucketId, PlainRings, PoolId, PoolTree, RawRings, Rings,
+    BrigadeId, Brigades, BucketId, FileNo, Files, PlainRings, PoolId, PoolTree, RawRings, Rings,
+    Stored,
 };
+pub use byte_text::BlockBytes;
 pub use conn::{Conn, Filter, OpenFile};
 pub use conn_bare::{Bare, step_bare};
 pub use conn_step::step_watched;
-pub use ring_run::LabelsRun;
-pub use run_model::{Bucket, Mark, Payload, PoolVar, Seq, StepRefusal, Stepped};
+pub use interp_exec::LabelsRun;
+pub use run_model::{
+    Bucket, Mark, Module, Payload, Piece, PoolVar, Refusal, Seq, Status, StepRefusal, Stepped,
+};

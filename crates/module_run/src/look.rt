@@ -8,9 +8,9 @@ ghost use Rattle.run_model.specs.Chains.{module_at};
 
 use crate::conn::Conn;
 use brigade_ops::{Brigades, PoolTree, Rings, Stored};
-use ring_calls::asks::{is_spent, lacks_names};
-use ring_calls::context::Context;
-use ring_wants::wants::fault;
+use interp_checks::wants::fault;
+use interp_state::asks::{is_spent, lacks_names};
+use interp_state::context::Context;
 use run_model::{FaultKind, Instr, Module, Payload, Status};
 
 /// The next instruction of the call on top: the number of its module and its own.

@@ -37,7 +37,7 @@ fn has_late_data(pieces: &[Piece]) -> bool
 }
 
 /// Whether a data piece stands behind an EOS.
-#[tactic(auto, using(ring_passes::proofs::LatePieces::late_from_none))]
+#[tactic(auto, using(interp_calls::proofs::LatePieces::late_from_none))]
 pub(crate) fn has_data_behind_eos(pieces: &[Piece]) -> bool
     ensures { result ≡ data_behind_eos pieces.now }
 {

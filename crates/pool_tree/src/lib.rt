@@ -9,7 +9,7 @@ mod refusal;
 mod text;
 mod tree;
 
-pub use byte_text::WriteFault;
+pub use byte_text::{TextWriter, WriteFault};
 pub use refusal::PoolError;
 pub use run_model::{CleanupKind, ClearKind};
 pub use text::PoolText;

@@ -1,11 +1,11 @@
 //! Texts of payloads.
 
 ghost use Rattle.std.specs.Prelude.{◌≡◌, not};
-ghost use Rattle.byte_text.specs.Writes.{Wrote};
+ghost use Rattle.byte_text.specs.Writes.{Wrote, writer_state};
 ghost use Rattle.run_model.specs.Pools.{is_empty};
 ghost use Rattle.pool_tree.specs.Printed.{payload_text};
 
-use byte_text::{WriteFault, print_text};
+use byte_text::{TextWriter, WriteFault, print_text};
 use run_model::Payload;
 use std::io::Write;
 
@@ -21,8 +21,8 @@ pub trait PoolText {
         ensures { result ≡ not (is_empty (shown self.now)) };
 
     /// Writes the text. Where that fails, a front of it is written.
-    fn put<W: Write>(&self, out: &mut W) -> Result<(), WriteFault>
-        ensures { Wrote result (W.contents out.old) (W.contents out.new) (shown self.now) };
+    fn put<W: Write>(&self, out: &mut TextWriter<W>) -> Result<(), WriteFault>
+        ensures { Wrote result (writer_state W.contents out.old) (writer_state W.contents out.new) (shown self.now) };
 }
 
 impl PoolText for Payload {
@@ -32,7 +32,7 @@ impl PoolText for Payload {
         matches!(self, Payload::Label(_))
     }
 
-    fn put<W: Write>(&self, out: &mut W) -> Result<(), WriteFault> {
+    fn put<W: Write>(&self, out: &mut TextWriter<W>) -> Result<(), WriteFault> {
         match self {
             Payload::Label(text) => print_text(out, text.as_slice()),
             Payload::FileRef(_) | Payload::Brigade(_) => Ok(()),

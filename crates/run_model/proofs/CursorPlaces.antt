@@ -8,7 +8,7 @@ use Rattle.run_model.specs.declared.bucket.BrigadeVar.TheVariants as var
 use Rattle.run_model.specs.BrigadeLists.{buckets_from, first_bucket, bucket_named, is_there}
 use Rattle.run_model.specs.Sound.{brigade_name}
 use Rattle.run_model.specs.State.{Configuration, is_named}
-use Rattle.run_model.specs.Cursors.{Place, Nowhere, AtLoose, Within, AtEndOf, found_below, holder_of, variable_of, place_of_loose, place_in_brigade, place_of_bucket, place_of_end, place_of_cursor}
+use Rattle.run_model.specs.Cursors.{CursorPlace, Nowhere, AtLoose, Within, AtEndOf, found_below, holder_of, variable_of, place_of_loose, place_in_brigade, place_of_bucket, place_of_end, place_of_cursor}
 use Rattle.run_model.specs.BucketSteps.{items_at}
 
 -- What is found below a number is below it, and passes the test.
@@ -30,7 +30,7 @@ named_is n (b ∷ bs) x is = by_name (b.name == n) refl (named_is n bs x) is whe
   by_name false tells rest is = rest is
 
 -- What a place says of the state.
-abbrev pub StandsThere : Configuration → Place → Type 0
+abbrev pub StandsThere : Configuration → CursorPlace → Type 0
 StandsThere r Nowhere = Unit {0}
 StandsThere r (AtLoose x) = bucket_named x.name r.call.loose ≡ Some x
 StandsThere r (Within b x) = (b < 9) × (bucket_named x.name (items_at r b) ≡ Some x)

@@ -9,14 +9,14 @@ use Rattle.byte_streams.specs.Counted.{IsCounted}
 use Rattle.byte_streams.specs.declared.counted.CountedFault.{CountedFault}
 use Rattle.byte_streams.specs.declared.counted.CountedFault.TheVariants as counted
 use Rattle.byte_text.specs.TextLines.{RawLine, lines_of}
-use Rattle.module_tools.specs.declared.ended.Ended.{Ended}
-use Rattle.module_tools.specs.declared.ended.Ended.TheVariants as ended
-use Rattle.module_tools.specs.declared.fault.PlayFault.{PlayFault}
-use Rattle.module_tools.specs.declared.fault.PlayFault.TheVariants as fault
+use Rattle.module_commands.specs.declared.ended.Ended.{Ended}
+use Rattle.module_commands.specs.declared.ended.Ended.TheVariants as ended
+use Rattle.module_commands.specs.declared.fault.PlayFault.{PlayFault}
+use Rattle.module_commands.specs.declared.fault.PlayFault.TheVariants as fault
 use Rattle.filter_chain.specs.Hosting.{Ghosts, Stored}
 use Rattle.script_play.specs.declared.player.Player.{Player}
 use Rattle.script_text.specs.Heads.{no_head}
-use Rattle.module_tools.specs.Streams.{Writes}
+use Rattle.module_commands.specs.Streams.{Writes}
 use Rattle.script_play.specs.Playing.{IsEndFrom, IsCutOfSome, IsCutOfEnd, PlaysOn, PlaysBytes, PlaysEnd}
 use Rattle.script_play.specs.Sessions.{IsAt}
 use Rattle.script_play.specs.Written.{Stage, Reading, Serving, Over, is_over, TakesAll, IsSomeOf, IsWhole, HasNoLf, AnswersLinesRead, LastRead, TellsSome, IsWrittenFor, IsFrontOf, IsCutOf}

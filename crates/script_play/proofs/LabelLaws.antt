@@ -7,8 +7,8 @@ use Rattle.run_model.specs.declared.payload.Payload.{Payload}
 use Rattle.run_model.specs.declared.payload.Payload.TheVariants.{Label, FileRef, Brigade}
 use Rattle.run_model.specs.Payloads.{labels_in}
 use Rattle.module_run.specs.Conns.{labels_handed}
-use Rattle.ring_run.specs.declared.labels_run.LabelsRun.{LabelsRun}
-use Rattle.ring_run.specs.LabelsKept.{is_run, AreLabels}
+use Rattle.interp_exec.specs.declared.labels_run.LabelsRun.{LabelsRun}
+use Rattle.interp_exec.specs.LabelsKept.{is_run, AreLabels}
 
 in_turn : (x : ℕ × Payload) (xs : List (ℕ × Payload)) → labels_in (x ∷ xs) ≡ labels_in (x ∷ []) ++ labels_in xs
 in_turn (p, Label text) xs = refl

@@ -9,3 +9,7 @@ pub mod BringLaws
 pub mod Served
 pub mod FaithfulFiles
 pub mod SessionLaws
+pub mod CommandOnce
+pub mod HeadOnce
+pub mod WholeLines
+pub mod TextOnce

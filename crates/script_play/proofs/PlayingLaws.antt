@@ -5,12 +5,12 @@ use Rattle.std.proofs.lemmas.List.Elements.{All-append}
 use Rattle.std.proofs.KnownBytes.{Appends-nil, Appends-trans, Appends-kept}
 use Rattle.std.specs.Io.KnownBytes.{Appends, Keeps}
 use Rattle.byte_text.specs.TextLines.{RawLine, lines_of}
-use Rattle.module_tools.specs.declared.ended.Ended.{Ended}
-use Rattle.module_tools.specs.declared.fault.PlayFault.{PlayFault}
-use Rattle.module_tools.specs.declared.fault.PlayFault.TheVariants as fault
+use Rattle.module_commands.specs.declared.ended.Ended.{Ended}
+use Rattle.module_commands.specs.declared.fault.PlayFault.{PlayFault}
+use Rattle.module_commands.specs.declared.fault.PlayFault.TheVariants as fault
 use Rattle.filter_chain.specs.Hosting.{Ghosts, Stored}
 use Rattle.script_play.specs.declared.player.Player.{Player}
-use Rattle.module_tools.specs.Streams.{WritesText}
+use Rattle.module_commands.specs.Streams.{WritesText}
 use Rattle.script_play.specs.Playing.{IsCutOfSome, AddsText, PlaysOn, PlaysLines, PlaysBytes, EndsLines, PlaysEnd}
 use Rattle.script_play.specs.Sessions.{IsAt, TakesOn, EndsOn}
 use Rattle.script_play.specs.Written.{Stage, TakesAll, IsSomeOf, EndsAt, IsWhole, HasNoLf}

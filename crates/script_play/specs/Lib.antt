@@ -1,10 +1,11 @@
 pub use Rattle.module_code.specs.Program
 pub use Rattle.life_check.specs.ChainTheorem
 pub use Rattle.script_text.specs.Heads
-pub use Rattle.module_tools.specs.Streams
+pub use Rattle.module_commands.specs.Streams
 pub mod Plays
 pub mod Faithful
 pub mod Written
+pub mod OneText
 pub mod Sessions
 pub mod Players
 pub mod Playing

@@ -2,9 +2,9 @@
 use Rattle.std.specs.Prelude.{◌≡◌, ◌≢◌, ℕ, ◌+◌, false, List, [], ◌++◌, length, Option, Result, Ok, Err, ◌⊎◌}
 use Rattle.std.specs.Io.KnownBytes.{Appends}
 use Rattle.byte_text.specs.TextLines.{RawLine, lines_of}
-use Rattle.module_tools.specs.declared.ended.Ended.{Ended}
-use Rattle.module_tools.specs.declared.fault.PlayFault.{PlayFault}
-use Rattle.module_tools.specs.declared.fault.PlayFault.TheVariants as fault
+use Rattle.module_commands.specs.declared.ended.Ended.{Ended}
+use Rattle.module_commands.specs.declared.fault.PlayFault.{PlayFault}
+use Rattle.module_commands.specs.declared.fault.PlayFault.TheVariants as fault
 use Rattle.filter_chain.specs.Hosting.{Ghosts, Stored}
 use Rattle.script_play.specs.declared.player.Player.{Player}
 use Rattle.script_play.specs.Written.{Stage, is_over, TakesAll, IsSomeOf, EndsAt, IsWhole, HasNoLf}

@@ -14,7 +14,7 @@ use Rattle.script_play.specs.declared.player.Stage.{Stage as CodeStage}
 use Rattle.script_play.specs.declared.player.Stage.TheVariants as code
 use Rattle.script_play.specs.declared.player.Player.{Player}
 use Rattle.script_text.specs.declared.reply.CommandReply.{CommandReply}
-use Rattle.module_tools.specs.declared.ended.Ended.{Ended}
+use Rattle.module_commands.specs.declared.ended.Ended.{Ended}
 use Rattle.script_play.specs.declared.session.Session.{Session as CodeSession}
 use Rattle.script_text.specs.Bounds.{IsScriptBounded}
 use Rattle.script_text.specs.Heads.{head_of}

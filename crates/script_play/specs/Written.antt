@@ -9,8 +9,8 @@ use Rattle.bucket_kinds.specs.MemDevice.{device_of}
 use Rattle.life_check.specs.declared.refusal.CheckRefusal.{CheckRefusal}
 use Rattle.filter_chain.specs.HostViews.{HostView, host_view}
 use Rattle.script_text.specs.declared.command.Command.{Command}
-use Rattle.module_tools.specs.declared.ended.Ended.{Ended}
-use Rattle.module_tools.specs.declared.ended.Ended.TheVariants as ended
+use Rattle.module_commands.specs.declared.ended.Ended.{Ended}
+use Rattle.module_commands.specs.declared.ended.Ended.TheVariants as ended
 use Rattle.script_text.specs.declared.reply.CommandReply.{CommandReply}
 use Rattle.script_text.specs.declared.reply.CommandReply.TheVariants as answer
 use Rattle.script_text.specs.declared.texts.LineTaken.{LineTaken}
@@ -186,7 +186,7 @@ pub record TellsSome {script : List ℕ} {left : Option (List ℕ)} (read : Last
   pub whole : IsWhole seen ⊎ ((read.last ≡ []) × (rest ≡ []))
   pub tells : IsSomeOf (1 + length (lines_of read.whole)) (lines_of seen) read.mid text
 
--- What is written where memory is wanting: all lines are answered but those that end in the last 8192 bytes that were read; of these, some first
+-- What is written where memory runs out: all lines are answered but those that end in the last 8192 bytes that were read; of these, some first
 -- ones may be.
 pub record IsFrontOf (script text : List ℕ) (left : Option (List ℕ)) : Type 0 where
   pub read : LastRead script left

@@ -5,7 +5,9 @@ ghost use Rattle.script_play.specs.Prelude.{is_there, World, refusal_of, IsHosti
 ghost use Rattle.script_play.specs.Prelude.{device};
 
 use crate::labels::labels_of;
-use filter_chain::{AddRefusal, Host, MemFiles, Piece, Refusal, Rings, Seq, Stepped, Stored};
+use filter_chain::{
+    AddRefusal, Host, MemFiles, Piece, Refusal, Rings, Seq, Stepped, Stored, TextWriter,
+};
 use script_text::{Command, CommandReply, FileLine, ScriptPiece};
 use std::alloc::{AllocError, Global};
 
@@ -31,7 +33,7 @@ fn open<R: Rings<Stored> + Drop>(host: &mut Host<MemFiles, R>) -> CommandReply
     }
 }
 
-/// Adds a file of a name that no file has. An error is want of memory for its bytes or its name.
+/// Adds a file of a name that no file has. It is an error where memory runs out for its bytes or its name.
 #[inline(never)]
 fn file<R: Rings<Stored> + Drop>(
     alloc: Global,
@@ -147,7 +149,7 @@ fn output<R: Rings<Stored> + Drop>(host: &mut Host<MemFiles, R>, number: u64) ->
     }
 }
 
-/// The labels run so far. An error is want of memory for the answer.
+/// The labels run so far. It is an error where memory runs out for the answer.
 #[inline(never)]
 fn labels<R: Rings<Stored> + Drop>(
     alloc: Global,
@@ -163,7 +165,7 @@ fn labels<R: Rings<Stored> + Drop>(
     }
 }
 
-/// Closes a connection, and tells all labels run. An error is want of memory for the answer.
+/// Closes a connection, and tells all labels run. It is an error where memory runs out for the answer.
 #[inline(never)]
 fn close<R: Rings<Stored> + Drop>(
     alloc: Global,
@@ -180,7 +182,7 @@ fn close<R: Rings<Stored> + Drop>(
     }
 }
 
-/// The pools of all connections. An error is want of memory for the answer.
+/// The pools of all connections. It is an error where memory runs out for the answer.
 #[inline(never)]
 fn pools<R: Rings<Stored> + Drop>(
     alloc: Global,
@@ -190,16 +192,17 @@ fn pools<R: Rings<Stored> + Drop>(
     ensures served { IfOk result (λ r. (w : World) → IsHosting (device host.now) host.now w → IsServed host.now host.now Command.Pools r w) }
     ensures faultless { IfOk result (λ r. is_fault r ≡ false) }
 {
-    let mut lines = Vec::new(alloc);
-    let Ok(()) = host.print_pools(&mut lines) else {
+    let mut out = TextWriter::new(Vec::new(alloc));
+    let Ok(()) = host.print_pools(&mut out) else {
         return Err(AllocError);
     };
+    let lines = out.into_writer();
     let mut text = Seq::new(alloc);
     text.extend(lines.as_slice())?;
     Ok(CommandReply::Pools(text))
 }
 
-/// Does a command, and answers it. An error is want of memory for the answer, for a list of pieces, or for a file that is added.
+/// Does a command, and answers it. It is an error where memory runs out for the answer, for a list of pieces, or for a file that is added.
 pub fn serve<R: Rings<Stored> + Drop>(
     alloc: Global,
     host: &mut Host<MemFiles, R>,

@@ -2,7 +2,7 @@
 
 ghost use Rattle.std.specs.Prelude.{◌≡◌, ℕ, ◌++◌, ◌∷◌, [], true, IfOk, OnOk};
 ghost use Rattle.run_model.specs.Payloads.{labels_in};
-ghost use Rattle.ring_run.specs.LabelsKept.{is_run, AreLabels};
+ghost use Rattle.interp_exec.specs.LabelsKept.{is_run, AreLabels};
 ghost use Rattle.module_run.specs.Conns.{labels_handed};
 
 use filter_chain::LabelsRun;

@@ -8,7 +8,7 @@ ghost use Rattle.script_play.specs.Written.{Stage as ModelStage};
 use crate::session::Session;
 use byte_text::first_line;
 use filter_chain::{Rings, Stored};
-use module_tools::Ended;
+use module_commands::Ended;
 use script_text::{LineTaken, Texts, put_refused_module};
 use std::alloc::{AllocError, Global};
 use std::mem;

@@ -2,12 +2,12 @@
 
 ghost use Rattle.std.specs.Prelude.{◌≡◌, ◌≢◌, ◌<◌, ◌≤◌, ◌+◌, ◌-◌, ◌^◌, ◌++◌, [], ℕ, length, slice_index, IfOk};
 ghost use Rattle.script_play.specs.Prelude.{reads_left, source_of, lines_of, PlaysLines, PlaysBytes, PlaysEnd, EndsLines, TellsOfReader, TellsOfWriter, Writes, IsAt, Stage, Reading, no_head, HasNoLf};
-ghost use Rattle.script_play.specs.Prelude.{AnswersLinesRead, IsWrittenFor, IsFrontOf, IsCutOf};
+ghost use Rattle.script_play.specs.Prelude.{AnswersLinesRead, IsWrittenFor, IsOnlyTextFor, IsFrontOf, IsCutOf};
 
 use crate::player::Player;
 use byte_streams::{CountedSource, READ_BYTES, READS, ReadAnswer, Sink, Source};
 use filter_chain::{RawRings, Rings, Stored};
-use module_tools::{Ended, PlayFault, write_text};
+use module_commands::{Ended, PlayFault, write_text};
 use std::alloc::{AllocError, Global};
 
 /// Plays lines, and writes the answers. Without memory for an answer what was answered so far is written; without memory in the writer, nothing.
@@ -176,7 +176,8 @@ fn play_over<R: Rings<Stored> + Drop, S: Source, W: Sink>(
 /// `NoMemory`: all lines are answered but those that end in the last 8192 bytes that were read; of these, some first ones may be.
 /// `Write`: the writer failed; the same lines are answered, and of what follows it took a front, but not all of it.
 ///
-/// What is written is promised where it is known what the reader had left and what the writer holds, as of a slice and a `Vec`.
+/// What is written is promised where it is known what the reader had left and what the writer holds, as of a slice and a `Vec`. It is the
+/// only text for its script, up to the first line that says that memory was refused (`only`).
 pub fn run_play<R: Source, W: Sink>(
     alloc: Global,
     reader: &mut CountedSource<R>,
@@ -184,6 +185,7 @@ pub fn run_play<R: Source, W: Sink>(
 ) -> Result<Ended, PlayFault>
     requires { reads_left reader.old ≡ READS }
     ensures ok { IfOk result (λ e. Writes (R.remaining (source_of reader.old)) (W.contents writer.old) (W.contents writer.new) (λ script text. IsWrittenFor script text e)) }
+    ensures only { IfOk result (λ e. Writes (R.remaining (source_of reader.old)) (W.contents writer.old) (W.contents writer.new) (λ script text. IsOnlyTextFor script text e)) }
     ensures read { result ≡ Err PlayFault.Read
         → Writes (R.remaining (source_of reader.old)) (W.contents writer.old) (W.contents writer.new) (λ script text. AnswersLinesRead script text
         (R.remaining (source_of reader.new))) }

@@ -7,6 +7,7 @@ use life_cert::{MakeRefusal, make};
 use life_check::{Cert, ChainRefusal, CheckRefusal, CheckedChain, accept_chain};
 use module_code::Module;
 use std::alloc::{AllocError, Global};
+use thiserror::Error;
 
 /// A module of a script, and the certificate that stands behind it.
 #[derive(Drop)]
@@ -25,7 +26,8 @@ enum Certified {
 }
 
 /// A module that is refused, by its place in the chain, and why.
-#[derive(Clone, Copy)]
+#[derive(Clone, Copy, Debug, Error)]
+#[error("module {index}, {refusal}")]
 pub struct Refused {
     /// Its place, from 0 on.
     pub index: usize,

@@ -6,8 +6,7 @@ ghost use Rattle.script_text.specs.Replies.{refusal_name, stepped_line, went_lin
 ghost use Rattle.script_text.specs.Refusals.{cert_line, refused_at_line, refused_module_line};
 
 use crate::names::{fault_name, rule_name};
-use block_bytes::BlockBytes;
-use byte_text::push_spelling;
+use byte_text::{BlockBytes, push_spelling};
 use life_check::Rule;
 use run_model::{Cause, FaultKind, Refusal, Seq, Status, Stepped};
 use std::alloc::{AllocError, Global};

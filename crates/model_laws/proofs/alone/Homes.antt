@@ -26,7 +26,7 @@ use Rattle.run_model.specs.declared.fault.FaultKind.TheVariants.{F7, F10}
 use Rattle.run_model.specs.Buckets.{end_pools, end_call, cleared_bucket}
 use Rattle.run_model.specs.BucketSteps.{items_at, changed_at, aside_into}
 use Rattle.run_model.specs.Clearing.{run_down}
-use Rattle.run_model.specs.Cursors.{Place, Nowhere, AtLoose, Within, AtEndOf, at_cursor}
+use Rattle.run_model.specs.Cursors.{CursorPlace, Nowhere, AtLoose, Within, AtEndOf, at_cursor}
 use Rattle.run_model.specs.Cutting.{set_aside_as}
 use Rattle.run_model.specs.EffectOf.{effect_of}
 use Rattle.run_model.specs.Faults.{Need, InBrigade, OnBucket, WPool, WNewPool, WCursor, has_pool, has_pool_at, is_live_named, usable_fault, passed_fault, cursor_fault, within_fault, fault_want, fault}
@@ -111,7 +111,7 @@ stays_unused T v var.Null stays none_told = absurd stays
 stays_unused T v var.Gone stays none_told = none T
 stays_unused T v (var.Live w) stays none_told = absurd (let told : passed_fault (var.Live w) ≡ Some F7 = ap (λ (m : Mark). cond (is_passed m) (Some F7) None) stays.1 in cc)
 
-place_unpassed : (r : Configuration) (f : Need) (s : Place) → cursor_fault r f s ≡ None → PlaceIn (λ b. passed_fault (r.instance.brigades b) ≡ None) s
+place_unpassed : (r : Configuration) (f : Need) (s : CursorPlace) → cursor_fault r f s ≡ None → PlaceIn (λ b. passed_fault (r.instance.brigades b) ≡ None) s
 unfolding cursor_fault
 place_unpassed r f Nowhere e = tt
 place_unpassed r f (AtLoose x) e = tt
@@ -225,7 +225,7 @@ module _ (l : Lasting) where
       elim has.1 [ inl named ↦ inl (named.0, named_same r s own conn req named.0 ∙ named.1) | inr lasts ↦ inr lasts ],
     )
 
-    aside_left : (target : ℕ) → HasPool r target → (s : Place) → Left r (aside_into s target r)
+    aside_left : (target : ℕ) → HasPool r target → (s : CursorPlace) → Left r (aside_into s target r)
     unfolding set_brigade set_loose with_pools
     aside_left target has Nowhere = holds
     aside_left target has (AtLoose x) =

@@ -12,7 +12,7 @@ use Rattle.run_model.specs.declared.payload.Payload.TheVariants.{FileRef}
 use Rattle.run_model.specs.Pools.{Pools, is_under, created, destroyed, registered, registered_as, no_cleanups}
 use Rattle.run_model.specs.RunOrder.{killed}
 use Rattle.run_model.specs.Clearing.{run_down}
-use Rattle.run_model.specs.Cursors.{Place, at_cursor}
+use Rattle.run_model.specs.Cursors.{CursorPlace, at_cursor}
 use Rattle.run_model.specs.Effects.{all_referred, label_killed, label_registered, made_on, new_ref, saved_into, text_of, with_brigade}
 use Rattle.run_model.specs.BucketSteps.{aside_into}
 use Rattle.run_model.specs.Sound.{SoundPools}
@@ -83,7 +83,7 @@ module _ (root : ℕ) where
   with_brigade_bare None name ps newer bare = bare
   with_brigade_bare (Some n) name ps newer bare = registered_bare Plain n _ ps (newer n refl) bare
 
-  aside_bare : (s : Place) (target : ℕ) (r : Configuration) → root < target → Bares r → Bares (aside_into s target r)
+  aside_bare : (s : CursorPlace) (target : ℕ) (r : Configuration) → root < target → Bares r → Bares (aside_into s target r)
   aside_bare s target r newer bare = (let left = aside_pools s target r in subst IsBare (sym left.1) (referred_bare target left.0 r.shared.pools newer bare))
 
   module _ (p : Program) (r : Configuration) (s : SoundPools r) (d : AsDeclared p r) (newer : root < r.shared.conn) where

@@ -18,7 +18,7 @@ use Rattle.run_model.specs.Payloads.{is_label}
 use Rattle.run_model.specs.Buckets.{cleared_bucket}
 use Rattle.run_model.specs.Clearing.{run_down}
 use Rattle.run_model.specs.State.{Configuration, items_of, pool_named, set_pool, with_pools, set_brigade}
-use Rattle.run_model.specs.Cursors.{Place, at_cursor}
+use Rattle.run_model.specs.Cursors.{CursorPlace, at_cursor}
 use Rattle.run_model.specs.BucketSteps.{aside_into}
 use Rattle.run_model.specs.Steps.{Choice, with_brigade, all_referred, step, current, on_pool, label_registered, label_killed, text_of, saved_into, made_on, new_ref, pool_cleared, pool_destroyed}
 use Rattle.run_model.specs.Pieces.{has_range}
@@ -58,7 +58,7 @@ PoolsGrow ps new = (p file : ℕ) → refers ps p file ≡ true → refers new p
 held_so : (ps new : Pools Payload) → PoolsGrow ps new → (x : NamedBucket) → HasReference ps x → HasReference new x
 held_so ps new grow x h = λ file start len p c at. grow p file (h file start len p c at)
 
-aside_grows : (s : Place) (target : ℕ) (r : Configuration) → PoolsGrow r.shared.pools (aside_into s target r).shared.pools
+aside_grows : (s : CursorPlace) (target : ℕ) (r : Configuration) → PoolsGrow r.shared.pools (aside_into s target r).shared.pools
 aside_grows s target r p file h = (let left = aside_pools s target r in subst (λ (ps : Pools Payload). refers ps p file ≡ true) (sym left.1) (all_grow target left.0 r.shared.pools p file h))
 
 -- a bucket that the call does not see is held as it was

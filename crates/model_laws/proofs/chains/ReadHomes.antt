@@ -26,7 +26,7 @@ use Rattle.run_model.specs.BucketSteps.{items_at, bucket_read, first_read, rest_
 use Rattle.run_model.specs.Buckets.{is_dead, is_ended}
 use Rattle.run_model.specs.Chains.{Frame, Connection, Common, Linked, module_at, is_last, next_place, configuration, touched_bucket, touched_frame, put_back, stepped_in, led_to, IsChain, touched_var, places}
 use Rattle.run_model.specs.Chains.{touched_instance, pools_of}
-use Rattle.run_model.specs.Cursors.{Place, Nowhere, AtLoose, Within, AtEndOf, at_cursor, bucket_at}
+use Rattle.run_model.specs.Cursors.{CursorPlace, Nowhere, AtLoose, Within, AtEndOf, at_cursor, bucket_at}
 use Rattle.run_model.specs.Cursors.{read_cursor, place_of_loose, place_in_brigade, place_of_bucket, place_of_end, place_of_cursor, holder_of, variable_of}
 use Rattle.run_model.specs.Cutting.{FitsKind, LivesAs, form_of, form_of_kind, read_as, read_of}
 use Rattle.run_model.specs.Effects.{do_return}
@@ -290,7 +290,7 @@ filled_items b x items var.Null is = absurd (cc)
 filled_items b x items var.Gone is = absurd (cc)
 filled_items b x items (var.Live v) is = refl
 
-read_sets : (given : Option (List ℕ)) (s : Place) (r : Configuration) → StandsThere r s → cursor_fault r InBrigade s ≡ None → home_fault (bucket_at s) ≡ None → (n : ℕ)
+read_sets : (given : Option (List ℕ)) (s : CursorPlace) (r : Configuration) → StandsThere r s → cursor_fault r InBrigade s ≡ None → home_fault (bucket_at s) ≡ None → (n : ℕ)
     → (do_read given s r).call.cursors read_cursor ≡ cursor.At n → HomeWasRead r (do_read given s r) n
 unfolding cursor_fault set_brigade set_cursor
 read_sets given Nowhere r there none live n e = absurd (cc)

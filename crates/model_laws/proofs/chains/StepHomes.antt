@@ -20,7 +20,7 @@ use Rattle.run_model.specs.Cutting.{FitsKind}
 use Rattle.run_model.specs.State.{Configuration, items_of, pool_named, set_pool, with_pools, set_brigade, set_loose}
 use Rattle.run_model.specs.Faults.{WCursor, OnBucket, usable_fault, homes_fault, home_fault, fault_want}
 use Rattle.run_model.specs.BrigadeLists.{bucket_named}
-use Rattle.run_model.specs.Cursors.{Place, Nowhere, AtLoose, Within, AtEndOf, bucket_at, at_cursor}
+use Rattle.run_model.specs.Cursors.{CursorPlace, Nowhere, AtLoose, Within, AtEndOf, bucket_at, at_cursor}
 use Rattle.run_model.specs.BucketSteps.{items_at, changed_at, aside_into}
 use Rattle.run_model.specs.Steps.{Choice, step, on_pool, with_brigade, all_referred, do_return, made_on, new_ref, aside_named, saved_into, pool_cleared, pool_destroyed, label_registered, label_killed}
 use Rattle.run_model.specs.Steps.{text_of}
@@ -174,7 +174,7 @@ module _ (C : ℕ → Type 0) where
       each_changed (AliveAs C ps) (AliveAs C ps) x.name (aside_named ps target) xs (λ y e. e)
       (λ k d lt. λ same e. subst (λ (y : NamedBucket). AliveAs C ps (aside_named ps target y)) (sym (only_one x.name x xs there once k d lt same)) (lasting ps _ (aside.there formed target_lives))) h
 
-  aside_alive : (t : Place) (target : ℕ) (r : Configuration) → StandsThere r t → home_fault (bucket_at t) ≡ None → is_live r.shared.pools target ≡ true → Sound r → SeenHomes r
+  aside_alive : (t : CursorPlace) (target : ℕ) (r : Configuration) → StandsThere r t → home_fault (bucket_at t) ≡ None → is_live r.shared.pools target ≡ true → Sound r → SeenHomes r
       → SeenHomes (aside_into t target r)
   unfolding set_brigade set_loose with_pools
   aside_alive Nowhere target r there live target_lives sound h = h

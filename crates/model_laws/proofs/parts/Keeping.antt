@@ -23,7 +23,7 @@ use Rattle.run_model.specs.Pools.{Pools, is_under, registered}
 use Rattle.run_model.specs.Cutting.{LivesAs, FitsKind}
 use Rattle.run_model.specs.Buckets.{is_ended, is_dead}
 use Rattle.run_model.specs.State.{Configuration, items_of, pool_named, set_brigade, set_loose, set_pool, with_pools}
-use Rattle.run_model.specs.Cursors.{Place, Nowhere, AtLoose, Within, AtEndOf, at_cursor, bucket_at}
+use Rattle.run_model.specs.Cursors.{CursorPlace, Nowhere, AtLoose, Within, AtEndOf, at_cursor, bucket_at}
 use Rattle.run_model.specs.Effects.{is_above, file_of, new_ref, all_referred, with_brigade, saved_into, made_on, pool_cleared, pool_destroyed, label_registered, label_killed, text_of, do_pcreate}
 use Rattle.run_model.specs.BucketSteps.{aside_into, items_at}
 use Rattle.run_model.specs.declared.fault.FaultKind.{FaultKind}
@@ -147,7 +147,7 @@ module _ (c d : ℕ) (p : Program) (r : Configuration) (s : LiesIn c r) (k : Kee
   kept : (change : Change) (n : ℕ) → is_under r.shared.pools c n ≡ true → IsNotDestroyed change d n → IsOwnChange change c r.shared.pools → PartKept d r.shared.pools (changed change n r.shared.pools)
   kept change n under spared own = changed_kept c d r.shared.pools s.has other change n under spared own
 
-  aside_keeps : (at : Place) (target : ℕ) → StandsThere r at → home_fault (bucket_at at) ≡ None → is_under r.shared.pools c target ≡ true → Keeps d r.shared.pools (aside_into at target r)
+  aside_keeps : (at : CursorPlace) (target : ℕ) → StandsThere r at → home_fault (bucket_at at) ≡ None → is_under r.shared.pools c target ≡ true → Keeps d r.shared.pools (aside_into at target r)
   unfolding set_brigade set_loose with_pools
   aside_keeps (Within b x) target there live under = referred_kept c d r.shared.pools s.has other target _ under
       (refs_own c target r.shared.pools s.files (x ∷ [])

@@ -10,7 +10,7 @@ use Rattle.run_model.specs.declared.event.Exit.{Exit}
 use Rattle.run_model.specs.declared.payload.Payload.{Payload}
 use Rattle.run_model.specs.Pools.{Pools}
 use Rattle.run_model.specs.State.{Configuration, named_at, set_brigade, set_loose, set_number, set_cursor}
-use Rattle.run_model.specs.Cursors.{Place, AtLoose, Within, at_cursor, place_of_cursor, holder_of, variable_of}
+use Rattle.run_model.specs.Cursors.{CursorPlace, AtLoose, Within, at_cursor, place_of_cursor, holder_of, variable_of}
 use Rattle.run_model.specs.BucketSteps.{do_next, do_unlink, do_delete, put_into, do_before, do_make, do_split, split_there, is_unsplit, do_read, read_within, read_given, got}
 use Rattle.run_model.specs.BrigadeLists.{put_before}
 use Rattle.model_laws.specs.Laws.{may_change_tree}
@@ -33,34 +33,34 @@ abbrev pub went : Exit → Configuration → Outcome
 went e r = record { exit = e; state = r }
 
 module _ (change : Pools Payload → Pools Payload) where
-  next_alike : (d : ℕ) (s : Place) (r : Configuration) → do_next d s (amended change r) ≡ amended change (do_next d s r)
+  next_alike : (d : ℕ) (s : CursorPlace) (r : Configuration) → do_next d s (amended change r) ≡ amended change (do_next d s r)
   unfolding set_cursor
   next_alike d (Within b x) r = refl
   next_alike d s r = refl
 
-  unlink_alike : (s : Place) (r : Configuration) → do_unlink s (amended change r) ≡ amended change (do_unlink s r)
+  unlink_alike : (s : CursorPlace) (r : Configuration) → do_unlink s (amended change r) ≡ amended change (do_unlink s r)
   unfolding set_loose set_brigade
   unlink_alike (Within b x) r = refl
   unlink_alike s r = refl
 
-  delete_alike : (s : Place) (r : Configuration) → do_delete s (amended change r) ≡ amended change (do_delete s r)
+  delete_alike : (s : CursorPlace) (r : Configuration) → do_delete s (amended change r) ≡ amended change (do_delete s r)
   unfolding set_loose set_brigade
   delete_alike (Within b x) r = refl
   delete_alike s r = refl
 
-  put_alike : (insert : NamedBucket → List NamedBucket → List NamedBucket) (b : ℕ) (s : Place) (r : Configuration) → put_into insert b s (amended change r) ≡ amended change (put_into insert b s r)
+  put_alike : (insert : NamedBucket → List NamedBucket → List NamedBucket) (b : ℕ) (s : CursorPlace) (r : Configuration) → put_into insert b s (amended change r) ≡ amended change (put_into insert b s r)
   unfolding set_loose set_brigade
   put_alike insert b (AtLoose x) r = refl
   put_alike insert b s r = refl
 
-  before_alike : (s t : Place) (r : Configuration) → do_before s t (amended change r) ≡ amended change (do_before s t r)
+  before_alike : (s t : CursorPlace) (r : Configuration) → do_before s t (amended change r) ≡ amended change (do_before s t r)
   before_alike s (Within b y) r = put_alike (put_before y.name) b s r
   before_alike s t r = refl
 
-  split_alike : (n : ℕ) (s : Place) (r : Configuration) → do_split n s (amended change r) ≡ amended change (do_split n s r)
+  split_alike : (n : ℕ) (s : CursorPlace) (r : Configuration) → do_split n s (amended change r) ≡ amended change (do_split n s r)
   unfolding set_brigade
   split_alike n s r = by_test s (is_unsplit n s) where
-    by_test : (s : Place) (t : Bool) → cond t (amended change r) (split_there n s (amended change r)) ≡ amended change (cond t r (split_there n s r))
+    by_test : (s : CursorPlace) (t : Bool) → cond t (amended change r) (split_there n s (amended change r)) ≡ amended change (cond t r (split_there n s r))
     by_test s true = refl
     by_test (Within b x) false = refl
     by_test s false = refl
@@ -75,7 +75,7 @@ module _ (change : Pools Payload → Pools Payload) where
   within_alike b x None r = refl
   within_alike b x (Some bytes) r = refl
 
-  read_alike : (given : Option (List ℕ)) (s : Place) (r : Configuration) → do_read given s (amended change r) ≡ amended change (do_read given s r)
+  read_alike : (given : Option (List ℕ)) (s : CursorPlace) (r : Configuration) → do_read given s (amended change r) ≡ amended change (do_read given s r)
   read_alike given (Within b x) r = within_alike b x (read_given given x.bucket.content) r
   read_alike given s r = refl
 

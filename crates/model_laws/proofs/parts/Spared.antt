@@ -12,7 +12,7 @@ use Rattle.run_model.specs.declared.payload.Payload.TheVariants as payload
 use Rattle.run_model.specs.Payloads.{is_label}
 use Rattle.run_model.specs.Pools.{Pools, is_under, registered}
 use Rattle.run_model.specs.State.{Configuration, items_of, pool_named, set_brigade, set_loose, set_pool, with_pools}
-use Rattle.run_model.specs.Cursors.{Place, Nowhere, AtLoose, Within, AtEndOf, at_cursor}
+use Rattle.run_model.specs.Cursors.{CursorPlace, Nowhere, AtLoose, Within, AtEndOf, at_cursor}
 use Rattle.run_model.specs.Effects.{new_ref, all_referred, with_brigade, saved_into, made_on, pool_cleared, pool_destroyed, label_registered, label_killed, text_of, do_pcreate}
 use Rattle.run_model.specs.BucketSteps.{aside_into}
 use Rattle.run_model.specs.Steps.{Choice, Outcome, step}
@@ -58,7 +58,7 @@ module _ (c d : ℕ) (p : Program) (r : Configuration) (s : LiesIn c r) (other :
       all_off d target files r.shared.pools (off_belongs r.shared.pools c d target s.has other ne under)
       ∙ same_next d r.shared.pools (all_referred target files r.shared.pools) (referred_next target files r.shared.pools)
 
-  aside_spares : (at : Place) (target : ℕ) → is_under r.shared.pools c target ≡ true → SparesPart d r.shared.pools (aside_into at target r)
+  aside_spares : (at : CursorPlace) (target : ℕ) → is_under r.shared.pools c target ≡ true → SparesPart d r.shared.pools (aside_into at target r)
   unfolding set_brigade set_loose with_pools
   aside_spares (Within b x) target under = refers target (filter_map (new_ref r.shared.pools target) (x ∷ [])) under
   aside_spares (AtLoose x) target under = refers target (filter_map (new_ref r.shared.pools target) (x ∷ [])) under

@@ -26,7 +26,7 @@ use Rattle.run_model.specs.Clearing.{cleared_var, run_down}
 use Rattle.run_model.specs.Cutting.{set_aside}
 use Rattle.run_model.specs.Files.{Files, let_go}
 use Rattle.run_model.specs.State.{Configuration, items_of, named_at, pool_named, set_brigade, set_loose, set_pool, with_pools}
-use Rattle.run_model.specs.Cursors.{Place, Nowhere, AtLoose, Within, AtEndOf, at_cursor, place_of_cursor, holder_of, variable_of}
+use Rattle.run_model.specs.Cursors.{CursorPlace, Nowhere, AtLoose, Within, AtEndOf, at_cursor, place_of_cursor, holder_of, variable_of}
 use Rattle.run_model.specs.Effects.{on_pool, is_above, file_of, new_ref, all_referred, aside_named, with_items, with_brigade, saved_into, made_on, pool_cleared, pool_destroyed, label_registered}
 use Rattle.run_model.specs.Effects.{label_killed, text_of, do_pcreate, do_create}
 use Rattle.run_model.specs.BucketSteps.{items_at, set_items, changed_at, aside_into}
@@ -92,7 +92,7 @@ refs_part c target items ps h under =
     ∙ all_part c target (filter_map (new_ref ps target) items) ps h under
 
 module _ (c target : ℕ) (r : Configuration) (s : LiesIn c r) (under : is_under r.shared.pools c target ≡ true) where
-  aside_alike : (at : Place) → aside_into at target (in_part c r) ≡ in_part c (aside_into at target r)
+  aside_alike : (at : CursorPlace) → aside_into at target (in_part c r) ≡ in_part c (aside_into at target r)
   unfolding set_brigade set_loose with_pools
   aside_alike (Within b x) =
       ap (λ (f : NamedBucket → NamedBucket). set_items b (changed_at x.name f (items_at r b))

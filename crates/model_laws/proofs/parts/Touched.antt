@@ -16,7 +16,7 @@ use Rattle.run_model.specs.RunOrder.{killed}
 use Rattle.run_model.specs.Buckets.{cleared_bucket}
 use Rattle.run_model.specs.Clearing.{is_reached, cleared_var}
 use Rattle.run_model.specs.State.{Configuration, items_of, pool_named, set_brigade, set_pool, with_pools}
-use Rattle.run_model.specs.Cursors.{Place, at_cursor}
+use Rattle.run_model.specs.Cursors.{CursorPlace, at_cursor}
 use Rattle.run_model.specs.Effects.{on_pool, new_ref, with_brigade, saved_into, made_on, returned_var, pool_cleared, pool_destroyed, label_registered, label_killed, text_of}
 use Rattle.run_model.specs.BucketSteps.{aside_into}
 use Rattle.run_model.specs.Steps.{step}
@@ -95,7 +95,7 @@ module _ (c : ℕ) (r : Configuration) (s : LiesIn c r) (v : BrigadeVar) (lies :
   saved_lies o b target = over (saved_into o b target r).shared.pools
       (λ m under. ap (λ (f : ℕ → List ℕ). f m) (referred_path target (filter_map (new_ref r.shared.pools target) (items_of (r.instance.brigades b))) r.shared.pools))
 
-  aside_lies : (at : Place) (target : ℕ) → LiesUnder c (aside_into at target r).shared.pools v
+  aside_lies : (at : CursorPlace) (target : ℕ) → LiesUnder c (aside_into at target r).shared.pools v
   aside_lies at target = over (aside_into at target r).shared.pools (λ m under. ap (λ (f : ℕ → List ℕ). f m) (aside_path at target r))
 
 pub touched_lies : TouchedLies

@@ -14,7 +14,7 @@ use Rattle.run_model.specs.Pools.{Pools, is_empty, is_in, is_live, is_under, cle
 use Rattle.run_model.specs.RunOrder.{IsPoolMap, killed}
 use Rattle.run_model.specs.Clearing.{run_down}
 use Rattle.run_model.specs.State.{Configuration, items_of, pool_named, set_brigade, set_loose, set_pool, with_pools}
-use Rattle.run_model.specs.Cursors.{Place, Nowhere, AtLoose, Within, AtEndOf, at_cursor}
+use Rattle.run_model.specs.Cursors.{CursorPlace, Nowhere, AtLoose, Within, AtEndOf, at_cursor}
 use Rattle.run_model.specs.Effects.{all_referred, label_killed, label_registered, made_on, new_ref, pool_cleared, pool_destroyed, saved_into, text_of, with_brigade}
 use Rattle.run_model.specs.BucketSteps.{aside_into}
 use Rattle.run_model.specs.Steps.{Choice, step}
@@ -109,7 +109,7 @@ module _ (c : ℕ) (p : Program) (r : Configuration) (s : LiesIn c r) where
   refers target files under = refilled c target r.shared.pools (all_referred target files r.shared.pools) s.has.formed under (referred_next target files r.shared.pools)
       (referred_path target files r.shared.pools) (referred_off target files r.shared.pools)
 
-  aside_within : (at : Place) (target : ℕ) → is_under r.shared.pools c target ≡ true → WithinStays c r (aside_into at target r)
+  aside_within : (at : CursorPlace) (target : ℕ) → is_under r.shared.pools c target ≡ true → WithinStays c r (aside_into at target r)
   unfolding set_brigade set_loose with_pools
   aside_within (Within b x) target under = refers target (filter_map (new_ref r.shared.pools target) (x ∷ [])) under
   aside_within (AtLoose x) target under = refers target (filter_map (new_ref r.shared.pools target) (x ∷ [])) under

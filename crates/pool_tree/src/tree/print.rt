@@ -1,20 +1,20 @@
 //! The text of the tree.
 
-ghost use Rattle.std.specs.Prelude.{◌≡◌, ℕ, ◌+◌, ◌≤◌, List, ◌++◌, reverse, IsTrue, IfSome, OnOk, MatchOption, None, Some, [], ◌∷◌};
+ghost use Rattle.std.specs.Prelude.{◌≡◌, ℕ, ◌+◌, ◌≤◌, List, ◌++◌, reverse, IsTrue, IfSome, MatchOption, None, Some, [], ◌∷◌};
 ghost use Rattle.std.specs.List.{flat_map};
-ghost use Rattle.std.specs.Io.KnownBytes.{Appends};
+ghost use Rattle.byte_text.specs.Writes.{WroteAll, writer_state};
 ghost use Rattle.pool_tree.specs.Prelude.{is_live, children, IsPlace, text_behind, text_left, record_of, parent_of, newest_of, older_of, margin, spaced, spaced_all, marked, marked_all, line, printed, map_of};
 
 use super::{PoolId, PoolTree};
 use crate::text::PoolText;
-use byte_text::{WriteFault, put_all};
+use byte_text::{TextWriter, WriteFault, put_all};
 use itoa::Buffer;
 use run_model::CleanupKind;
 use std::io::Write;
 
 /// Writes two spaces for each pool above.
-fn put_margin<W: Write>(out: &mut W, depth: u64) -> Result<(), WriteFault>
-    ensures { OnOk result (Appends (W.contents out.old) (W.contents out.new) (margin depth)) }
+fn put_margin<W: Write>(out: &mut TextWriter<W>, depth: u64) -> Result<(), WriteFault>
+    ensures { WroteAll result (writer_state W.contents out.old) (writer_state W.contents out.new) (margin depth) }
 {
     for _level in 0..depth {
         put_all(out, b"  ")?;
@@ -23,8 +23,8 @@ fn put_margin<W: Write>(out: &mut W, depth: u64) -> Result<(), WriteFault>
 }
 
 /// Writes a space and the text of a payload, where that is shown.
-fn put_shown<T: PoolText, W: Write>(out: &mut W, payload: &T) -> Result<(), WriteFault>
-    ensures { OnOk result (Appends (W.contents out.old) (W.contents out.new) (spaced (T.shown payload.now))) }
+fn put_shown<T: PoolText, W: Write>(out: &mut TextWriter<W>, payload: &T) -> Result<(), WriteFault>
+    ensures { WroteAll result (writer_state W.contents out.old) (writer_state W.contents out.new) (spaced (T.shown payload.now)) }
 {
     if !payload.is_shown() {
         return Ok(());
@@ -34,8 +34,11 @@ fn put_shown<T: PoolText, W: Write>(out: &mut W, payload: &T) -> Result<(), Writ
 }
 
 /// Writes the texts of payloads, the oldest first.
-fn put_payloads<T: PoolText, W: Write>(out: &mut W, payloads: &[T]) -> Result<(), WriteFault>
-    ensures { OnOk result (Appends (W.contents out.old) (W.contents out.new) (spaced_all T.shown payloads.now)) }
+fn put_payloads<T: PoolText, W: Write>(
+    out: &mut TextWriter<W>,
+    payloads: &[T],
+) -> Result<(), WriteFault>
+    ensures { WroteAll result (writer_state W.contents out.old) (writer_state W.contents out.new) (spaced_all T.shown payloads.now) }
 {
     for payload in payloads {
         put_shown(out, payload)?;
@@ -44,8 +47,8 @@ fn put_payloads<T: PoolText, W: Write>(out: &mut W, payloads: &[T]) -> Result<()
 }
 
 /// Writes a space, a caret and the text of a payload, where that is shown.
-fn put_early<T: PoolText, W: Write>(out: &mut W, payload: &T) -> Result<(), WriteFault>
-    ensures { OnOk result (Appends (W.contents out.old) (W.contents out.new) (marked (T.shown payload.now))) }
+fn put_early<T: PoolText, W: Write>(out: &mut TextWriter<W>, payload: &T) -> Result<(), WriteFault>
+    ensures { WroteAll result (writer_state W.contents out.old) (writer_state W.contents out.new) (marked (T.shown payload.now)) }
 {
     if !payload.is_shown() {
         return Ok(());
@@ -55,8 +58,11 @@ fn put_early<T: PoolText, W: Write>(out: &mut W, payload: &T) -> Result<(), Writ
 }
 
 /// Writes the texts of pre-payloads, the oldest first.
-fn put_pre_payloads<T: PoolText, W: Write>(out: &mut W, payloads: &[T]) -> Result<(), WriteFault>
-    ensures { OnOk result (Appends (W.contents out.old) (W.contents out.new) (marked_all T.shown payloads.now)) }
+fn put_pre_payloads<T: PoolText, W: Write>(
+    out: &mut TextWriter<W>,
+    payloads: &[T],
+) -> Result<(), WriteFault>
+    ensures { WroteAll result (writer_state W.contents out.old) (writer_state W.contents out.new) (marked_all T.shown payloads.now) }
 {
     for payload in payloads {
         put_early(out, payload)?;
@@ -66,8 +72,13 @@ fn put_pre_payloads<T: PoolText, W: Write>(out: &mut W, payloads: &[T]) -> Resul
 
 impl<T: Drop + PoolText> PoolTree<T> {
     /// Writes the line of a pool.
-    fn put_line<W: Write>(&self, out: &mut W, pool: PoolId, depth: u64) -> Result<(), WriteFault>
-        ensures { OnOk result (Appends (W.contents out.old) (W.contents out.new) (line T.shown (map_of self.now) depth pool)) }
+    fn put_line<W: Write>(
+        &self,
+        out: &mut TextWriter<W>,
+        pool: PoolId,
+        depth: u64,
+    ) -> Result<(), WriteFault>
+        ensures { WroteAll result (writer_state W.contents out.old) (writer_state W.contents out.new) (line T.shown (map_of self.now) depth pool) }
     {
         let mut digits = Buffer::new();
         put_margin(out, depth)?;
@@ -134,13 +145,13 @@ impl<T: Drop + PoolText> PoolTree<T> {
     /// Writes the lines of a pool and of those under it, as `print` does where this many pools stand above.
     pub fn put_pool<W: Write>(
         &self,
-        out: &mut W,
+        out: &mut TextWriter<W>,
         pool: PoolId,
         depth: u64,
     ) -> Result<(), WriteFault>
         requires live { IsTrue (is_live (map_of self.now) pool) }
         requires small { depth ≤ pool }
-        ensures { OnOk result (Appends (W.contents out.old) (W.contents out.new) (printed T.shown (map_of self.now) depth pool)) }
+        ensures { WroteAll result (writer_state W.contents out.old) (writer_state W.contents out.new) (printed T.shown (map_of self.now) depth pool) }
     {
         let mut place = Some((pool, depth));
         while let Some((name, level)) = place {
@@ -153,8 +164,8 @@ impl<T: Drop + PoolText> PoolTree<T> {
     /// Writes a line for each pool, its children below it, the oldest first: two spaces for each pool above,
     /// `pool` and its name, then a space, a caret and the text of each pre-payload, then a space and the text of each plain payload whose text is not empty, the oldest first.
     /// It takes no memory, and no more stack where the tree is deeper.
-    pub fn print<W: Write>(&self, out: &mut W) -> Result<(), WriteFault>
-        ensures { (root : ℕ) → (map_of self.now).path root ≡ root ∷ [] → OnOk result (Appends (W.contents out.old) (W.contents out.new) (printed T.shown (map_of self.now) 0 root)) }
+    pub fn print<W: Write>(&self, out: &mut TextWriter<W>) -> Result<(), WriteFault>
+        ensures { (root : ℕ) → (map_of self.now).path root ≡ root ∷ [] → WroteAll result (writer_state W.contents out.old) (writer_state W.contents out.new) (printed T.shown (map_of self.now) 0 root) }
     {
         self.put_pool(out, self.root, 0)
     }

@@ -1,12 +1,13 @@
 use Rattle.std.proofs.Common.{◌≡◌, ◌+◌, ◌++◌, ◌∙◌, ap, arith, drop, get_or, subst}
 use Rattle.byte_text.specs.Quoted.{spelled, spelled_all}
 use Rattle.byte_text.proofs.ListLaws.{drop_here}
+use Rattle.byte_text.specs.Writes.{writer_state}
 use Rattle.byte_text.proofs.WritingLaws.{Leaves, leaves_fault, leaves_less}
 use Rattle.byte_text.proofs.quoted.put_spelled.Goals as goal
 
 pub returns-in_err-put_all : goal.returns-in_err-put_all
 returns-in_err-put_all g c =
-    let w = g.W.Write.contents in
+    let w = writer_state g.W.Write.contents in
     let text = c.args.text.now in
     let i = c.loop-byte.byte-index in
     let whole = spelled_all text in
@@ -20,7 +21,7 @@ returns-in_err-put_all g c =
 
 pub loop-byte-preserved : goal.loop-byte-preserved
 loop-byte-preserved g c =
-    let w = g.W.Write.contents in
+    let w = writer_state g.W.Write.contents in
     let text = c.args.text.now in
     let i = c.loop-byte.byte-index in
     let whole = spelled_all text in

@@ -9,4 +9,8 @@ loop-at-preserved g c =
     let at = c.loop-at.at in
     let rest : take (length text - at) (drop at text) ≡ drop at text = grind (arith, common_steps) in
     let wrote = rw rest at c.in-Ok.ensures.bytes in
-    (grind arith, appends_take _ _ _ text at c.in-Ok.count c.loop-at.invariant.1 wrote)
+    record {
+      within = grind arith;
+      wrote = appends_take _ _ _ text at c.in-Ok.count c.loop-at.invariant.wrote wrote;
+      sound = c.loop-at.invariant.sound;
+    }

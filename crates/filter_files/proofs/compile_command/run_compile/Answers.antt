@@ -1,5 +1,5 @@
 use Rattle.filter_files.specs.FilterAnswers.{IsCompileOutput}
-use Rattle.module_tools.proofs.AnswerLaws.{writes_front}
+use Rattle.module_commands.proofs.AnswerLaws.{writes_front}
 use Rattle.filter_files.proofs.compile_command.run_compile.Goals as goal
 
 pub returns-clause-write : goal.returns-clause-write

@@ -1,5 +1,5 @@
 use Rattle.filter_files.specs.FilterReads.{IsFilterRead}
-use Rattle.module_tools.proofs.AnswerLaws.{of_all}
+use Rattle.module_commands.proofs.AnswerLaws.{of_all}
 use Rattle.filter_files.proofs.compiling.read_filter.Goals as goal
 
 pub returns-clause-ok : goal.returns-clause-ok

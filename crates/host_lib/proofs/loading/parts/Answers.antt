@@ -1,4 +1,4 @@
-use Rattle.std.proofs.Common.{map, get_or, arith}
+use Rattle.std.proofs.Common.{map, get_or, arith, ◌∙◌}
 use Rattle.std.proofs.lemmas.Grind.{common_steps}
 use Rattle.script_text.specs.Heads.{seen_part}
 use Rattle.host_lib.specs.declared.loading.TextLengths.{TextLengths}
@@ -8,7 +8,7 @@ use Rattle.host_lib.proofs.Refused.{first_refused}
 use Rattle.host_lib.proofs.loading.parts.Goals as goal
 
 abbrev none : TextLengths
-none = record { «module» = 0; certificate = 0 }
+none = record { text = 0; certificate = 0; kind = 0 }
 
 pub next_part-requires : goal.next_part-requires
 next_part-requires c = next_fits c.args.texts.now c.args.lengths.now c.loop-index.index none c.loop-index-test.true c.loop-index.rest.now c.loop-index.invariant.rest c.requires
@@ -24,6 +24,7 @@ returns-in-Err-clause-refused c =
 
 pub loop-index-preserved : goal.loop-index-preserved
 loop-index-preserved c = record {
+  words = c.next_part.ensures.words ∙ c.loop-index.invariant.words;
   rest = next_rest c.args.texts.now c.args.lengths.now c.loop-index.index none c.loop-index-test.true c.loop-index.rest.now c.loop-index.invariant.rest c.behind-rest.result.now c.behind-rest.ensures;
   count = grind (arith, common_steps, c.in-Ok-push.ensures.items);
   front =

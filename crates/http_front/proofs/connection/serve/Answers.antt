@@ -2,6 +2,7 @@ use Rattle.std.proofs.Common.{None, refl}
 use Rattle.byte_streams.specs.Counted.{source_of}
 use Rattle.http_front.proofs.Beside.{beside_same}
 use Rattle.http_front.proofs.ConnectLaws.{has_opened, has_still, none_opened, not_visited, opened_conn, served_ok, served_err, sink_told, sink_unopened, source_told, source_unopened, visited}
+use Rattle.http_front.proofs.ServeOnce.{only_served}
 use Rattle.http_front.proofs.connection.serve.Goals as goal
 
 pub returns-in-Ok-clause-ok : goal.returns-in-Ok-clause-ok
@@ -39,7 +40,8 @@ returns-in-Ok-clause-visits g c =
 
 pub returns-in-Err-clause-visits : goal.returns-in-Err-clause-visits
 returns-in-Err-clause-visits g c =
-    not_visited g.F.Files.device g.K.Clock.tells c.args.site.now c.args.host.now c.open_conn.new.self (record { kind = c.kind_of.result; left = None }) c.in-Err.refusal c.in-Err.ensures.event
+    not_visited g.F.Files.device g.K.Clock.tells c.args.site.now c.args.host.now c.open_conn.new.self
+    (record { kind = c.kind_of.result; left = None }) c.in-Err.refusal c.in-Err.ensures.event
 
 pub close-requires : goal.close-requires
 close-requires g c =
@@ -58,3 +60,8 @@ returns-in-Err-clause-source g c = source_unopened _ _ c.in-Err.refusal c.kind_o
 
 pub returns-in-Err-clause-sink : goal.returns-in-Err-clause-sink
 returns-in-Err-clause-sink g c = sink_unopened _ c.in-Err.refusal c.kind_of.result c.kind_of.ensures
+
+pub returns-in-Ok-clause-only : goal.returns-in-Ok-clause-only
+returns-in-Ok-clause-only g c =
+    only_served g.F.Files.device g.K.Clock.tells c.args.site.now c.args.host.now c.close.new.host c.args.clock.now c.serve_open-served.new.clock c.outcome_of.result
+    (g.S.Source.remaining (source_of c.args.reader.now)) (g.W.Sink.contents c.args.sink.now) (g.W.Sink.contents c.serve_open-served.new.sink) (returns-in-Ok-clause-ok g c)

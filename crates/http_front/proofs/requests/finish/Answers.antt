@@ -28,4 +28,4 @@ returns-in_ok-end_request-in-Succeeded-clause-leads g c =
     c.output-outcome.ensures.leads c.in_ok-end_request-in-Succeeded.ensures.leads)
 
 pub returns-in-Failed-clause-leads : goal.returns-in-Failed-clause-leads
-returns-in-Failed-clause-leads g c = finished g.F.Files.device c.args.number c.args.host.now c.finish_bare.new.host c.finish_bare.result c.args.how _ c.in-Failed.is c.finish_bare.ensures.leads
+returns-in-Failed-clause-leads g c = finished g.F.Files.device c.args.number c.args.host.now c.finish_without_body.new.host c.finish_without_body.result c.args.how _ c.in-Failed.is c.finish_without_body.ensures.leads

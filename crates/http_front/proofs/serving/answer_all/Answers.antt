@@ -1,6 +1,6 @@
 use Rattle.std.proofs.Common.{Bool, sym, subst, ◌∙◌, arith}
 use Rattle.std.proofs.lemmas.Result.{err_from_is_err_and}
-use Rattle.http_message.specs.Inboxes.{unread}
+use Rattle.http_message.specs.ReadBuffers.{unread}
 use Rattle.http_front.specs.Serving.{ServeStanding}
 use Rattle.http_front.proofs.NextLaws.{next_step}
 use Rattle.http_front.proofs.ServedLaws.{fails_as}
@@ -17,11 +17,11 @@ loop-conn-preserved g c =
       few = λ going. let one = e.few going in let all = inv.few at.0 in omega (arith, one, all);
       whole = c.answer_next.ensures.whole ∙ inv.whole;
       written = c.answer_next.ensures.written;
-      wants = λ is. let w = e.wants is in (c.answer_next.ensures.whole ∙ w.0, w.1);
+      needs_input = λ is. let w = e.needs_input is in (c.answer_next.ensures.whole ∙ w.0, w.1);
       sound = e.blames ∙ inv.sound;
       goes = λ old before r q w ends so.
           e.goes old before r q w (λ is. ends (sym inv.whole ∙ is)) (subst (λ (b : Bool). ServeStanding c.args.site.now (λ h. g.H.Handler.handles h c.args.number) g.K.Clock.tells old before r q w
-          (g.W.Sink.contents c.loop-conn.sink) b (unread c.loop-conn.conn.inbox) c.loop-conn.conn.requests c.loop-conn.handler c.loop-conn.clock) at.0 (inv.goes old before r q w ends so));
+          (g.W.Sink.contents c.loop-conn.sink) b (unread c.loop-conn.conn.read_buffer) c.loop-conn.conn.requests c.loop-conn.handler c.loop-conn.clock) at.0 (inv.goes old before r q w ends so));
     }
 
 pub returns-in_err-answer_next-in_default-clause-goes : goal.returns-in_err-answer_next-in_default-clause-goes
@@ -30,8 +30,8 @@ returns-in_err-answer_next-in_default-clause-goes g c old before r q w ends so =
     let at = next_step c.loop-conn.conn c.next.result (λ t. elim t [ ]) c.loop-conn.invariant.written c.next.ensures c.in_default.not-Over c.in_default.not-Reads in
     let inv = c.loop-conn.invariant in
     fails_as c.args.site.now (λ h. g.H.Handler.handles h c.args.number) g.K.Clock.tells (λ h. g.H.Handler.lacks h c.args.number) old before r q w
-    (g.W.Sink.contents c.answer_next.new.sink) c.answer_next.new.conn.over (unread c.answer_next.new.conn.inbox) c.answer_next.new.conn.requests
+    (g.W.Sink.contents c.answer_next.new.sink) c.answer_next.new.conn.over (unread c.answer_next.new.conn.read_buffer) c.answer_next.new.conn.requests
     c.answer_next.new.handler c.answer_next.new.clock c.from_residual.result p.0 c.in_err-answer_next-in_default.field-0.0 p.1 p.2
     (c.in_err-answer_next-in_default.ensures.goes old before r q w (λ is. ends (sym inv.whole ∙ is))
     (subst (λ (b : Bool). ServeStanding c.args.site.now (λ h. g.H.Handler.handles h c.args.number) g.K.Clock.tells old before r q w
-    (g.W.Sink.contents c.loop-conn.sink) b (unread c.loop-conn.conn.inbox) c.loop-conn.conn.requests c.loop-conn.handler c.loop-conn.clock) at.0 (inv.goes old before r q w ends so)))
+    (g.W.Sink.contents c.loop-conn.sink) b (unread c.loop-conn.conn.read_buffer) c.loop-conn.conn.requests c.loop-conn.handler c.loop-conn.clock) at.0 (inv.goes old before r q w ends so)))

@@ -1,7 +1,7 @@
 use Rattle.std.proofs.Common.{◌≡◌, ℕ, Bool, true, false, length, Ok, Err, ap, refl, ◌∙◌, sym, subst, arith, length-append}
 use Rattle.byte_streams.specs.Counted.{source_of}
 use Rattle.std.proofs.lemmas.Result.{err_from_is_err_and}
-use Rattle.http_message.specs.Inboxes.{unread}
+use Rattle.http_message.specs.ReadBuffers.{unread}
 use Rattle.http_front.specs.Serving.{EndsWell, ServeStanding}
 use Rattle.http_front.proofs.ServingLaws.{far_start}
 use Rattle.http_front.proofs.Stepped.{none_wants}
@@ -21,7 +21,7 @@ loop-conn-init g c = record {
   written = c.new-conn.ensures.pending;
   more = c.new-conn.ensures.whole;
   far = far_start _ _ _ _ _ _ _ _ _ c.new-conn.ensures.unread c.new-conn.ensures.requests;
-  wants = none_wants _ c.new-conn.ensures.unread;
+  needs_input = none_wants _ c.new-conn.ensures.unread;
   read_well = refl;
   wrote_well = refl;
 }
@@ -40,7 +40,7 @@ returns-in_err-take_counted g c =
       err =
           far_loses c.args.site.now (λ h. g.H.Handler.handles h c.args.number) g.K.Clock.tells (λ h. g.H.Handler.lacks h c.args.number) c.args.handler.now c.args.clock.now
           (r (source_of c.args.reader.now)) (r (source_of c.loop-conn.reader)) (r (source_of c.take_counted.new.reader)) (g.W.Sink.contents c.args.sink.now)
-          (g.W.Sink.contents c.loop-conn.sink) _ _ _ _ e inv.far inv.wants says.err;
+          (g.W.Sink.contents c.loop-conn.sink) _ _ _ _ e inv.far inv.needs_input says.err;
       source = source_err (Unit {0}) Served e _ _ _ (source_since {T = Unit {0}} (Err e) _ _ _ _ inv.read_well says.blames);
       sink = sink_apart Served e _ _ (λ is. says.unwritten (ap Err is)) inv.wrote_well;
     })
@@ -74,7 +74,7 @@ returns-then-branch-clause-ok g c =
     (r (source_of c.args.reader.now)) (w c.args.sink.now) (w c.answer_all.new.sink) n c.answer_all.new.handler c.answer_all.new.clock) (sym c.requests.ensures)
     (subst (λ (b : Bool). ServeStanding c.args.site.now (λ h. g.H.Handler.handles h c.args.number) g.K.Clock.tells c.args.handler.now c.args.clock.now
     (r (source_of c.args.reader.now)) (r (source_of c.take_counted.new.reader)) (w c.args.sink.now) (w c.answer_all.new.sink) b
-    (unread c.answer_all.new.conn.inbox) c.answer_all.new.conn.requests c.answer_all.new.handler c.answer_all.new.clock) over
+    (unread c.answer_all.new.conn.read_buffer) c.answer_all.new.conn.requests c.answer_all.new.handler c.answer_all.new.clock) over
     (e.goes c.args.handler.now c.args.clock.now (r (source_of c.args.reader.now)) (r (source_of c.take_counted.new.reader)) (w c.args.sink.now) adds.end
     (far_adds _ _ _ (λ h. g.H.Handler.lacks h c.args.number) _ _ _ _ _ _ _ _ _ _ _ _ _ _ _ c.take_counted.ensures.requests c.loop-conn.invariant.far adds)))
 
@@ -86,7 +86,7 @@ loop-conn-preserved g c =
     let e = c.in_ok-answer_all.ensures in
     let inv = c.loop-conn.invariant in
     let going : c.answer_all.new.conn.over ≡ false = e.over ∙ c.if-branch.false in
-    let wants = e.wants (ap Ok c.if-branch.false) in
+    let needs_input = e.needs_input (ap Ok c.if-branch.false) in
     record {
       opened = c.answer_all.ensures.open;
       beside = λ from so. c.answer_all.ensures.beside from (inv.beside from so);
@@ -95,7 +95,7 @@ loop-conn-preserved g c =
         e.few (ap Ok c.if-branch.false),
         inv.few,
         adds.few,
-        ap length adds.added ∙ length-append (unread c.loop-conn.conn.inbox) adds.bytes,
+        ap length adds.added ∙ length-append (unread c.loop-conn.conn.read_buffer) adds.bytes,
         c.in_ok-take_counted.ensures.counted,
         c.take_counted.ensures.requests,
       );
@@ -103,14 +103,14 @@ loop-conn-preserved g c =
       room = c.take_counted.ensures.room;
       going = going;
       written = c.answer_all.ensures.written;
-      more = wants.0;
+      more = needs_input.0;
       far =
           subst (λ (b : Bool). ServeStanding c.args.site.now (λ h. g.H.Handler.handles h c.args.number) g.K.Clock.tells c.args.handler.now c.args.clock.now
           (r (source_of c.args.reader.now)) (r (source_of c.take_counted.new.reader)) (w c.args.sink.now) (w c.answer_all.new.sink) b
-          (unread c.answer_all.new.conn.inbox) c.answer_all.new.conn.requests c.answer_all.new.handler c.answer_all.new.clock) going
+          (unread c.answer_all.new.conn.read_buffer) c.answer_all.new.conn.requests c.answer_all.new.handler c.answer_all.new.clock) going
           (e.goes c.args.handler.now c.args.clock.now (r (source_of c.args.reader.now)) (r (source_of c.take_counted.new.reader)) (w c.args.sink.now) adds.end
           (far_adds _ _ _ (λ h. g.H.Handler.lacks h c.args.number) _ _ _ _ _ _ _ _ _ _ _ _ _ _ _ c.take_counted.ensures.requests inv.far adds));
-      wants = wants.1;
+      needs_input = needs_input.1;
       read_well = c.in_ok-take_counted.ensures.blames ∙ inv.read_well;
       wrote_well = e.blames ∙ inv.wrote_well;
     }

@@ -40,8 +40,8 @@ returns-in_err-opens_later-in-None-clause-leads g c =
 
 pub returns-in-Err-clause-leads : goal.returns-in-Err-clause-leads
 returns-in-Err-clause-leads g c =
-    not_begun g.F.Files.device c.args.number c.args.host.now c.begin.new.self c.args.method c.args.name.now c.in-Err.refusal c.bare.result
-    c.in_ok-unless_lack.ensures.ok c.bare.ensures c.in-Err.ensures.event
+    not_begun g.F.Files.device c.args.number c.args.host.now c.begin.new.self c.args.method c.args.name.now c.in-Err.refusal c.without_body.result
+    c.in_ok-unless_lack.ensures.ok c.without_body.ensures c.in-Err.ensures.event
 
 pub returns-in_err-unless_lack-clause-lacks : goal.returns-in_err-unless_lack-clause-lacks
 returns-in_err-unless_lack-clause-lacks g c from so =

@@ -13,9 +13,9 @@ returns-in-Ok-clause-leads g c =
 
 pub returns-in_ok-unless_lack-in-Err-clause-leads : goal.returns-in_ok-unless_lack-in-Err-clause-leads
 returns-in_ok-unless_lack-in-Err-clause-leads g c =
-    opened_unless g.F.Files.device c.args.number c.args.host.now c.finish_bare.new.host c.finish_bare.result c.args.init c.args.method c.args.name.now c.in_default.not-Broke
-    (not_opened g.F.Files.device c.args.number c.args.host.now c.open_file.new.self c.finish_bare.new.host c.finish_bare.result c.args.init c.args.method
-    c.args.name.now c.in-Err.refusal c.unopened.result c.unopened.ensures c.in_ok-unless_lack-in-Err.ensures.ok c.in-Err.ensures.event c.finish_bare.ensures.leads)
+    opened_unless g.F.Files.device c.args.number c.args.host.now c.finish_without_body.new.host c.finish_without_body.result c.args.init c.args.method c.args.name.now c.in_default.not-Broke
+    (not_opened g.F.Files.device c.args.number c.args.host.now c.open_file.new.self c.finish_without_body.new.host c.finish_without_body.result c.args.init c.args.method
+    c.args.name.now c.in-Err.refusal c.unopened.result c.unopened.ensures c.in_ok-unless_lack-in-Err.ensures.ok c.in-Err.ensures.event c.finish_without_body.ensures.leads)
 
 pub returns-in_err-unless_lack-in-Err-clause-lacks : goal.returns-in_err-unless_lack-in-Err-clause-lacks
 returns-in_err-unless_lack-in-Err-clause-lacks g c from so =
@@ -29,7 +29,7 @@ returns-in-Ok-clause-lacks g c from so = c.carry_on.ensures.lacks from (beside_e
 
 pub returns-in_ok-unless_lack-in-Err-clause-lacks : goal.returns-in_ok-unless_lack-in-Err-clause-lacks
 returns-in_ok-unless_lack-in-Err-clause-lacks g c from so =
-    c.finish_bare.ensures.lacks from (beside_event g.F.Files.device c.args.number from c.args.host.now c.open_file.new.self so _ _ tt c.in-Err.ensures.event)
+    c.finish_without_body.ensures.lacks from (beside_event g.F.Files.device c.args.number from c.args.host.now c.open_file.new.self so _ _ tt c.in-Err.ensures.event)
 
 pub returns-in-Ok-clause-few : goal.returns-in-Ok-clause-few
 returns-in-Ok-clause-few g c from n so = c.carry_on.ensures.few from n (few_event g.F.Files.device c.args.number from c.args.host.now n so c.open_file.new.self _ _ tt refl c.in-Ok.ensures.event)
@@ -39,4 +39,4 @@ returns-in_err-unless_lack-in-Err-clause-few g c from n so = few_event g.F.Files
 
 pub returns-in_ok-unless_lack-in-Err-clause-few : goal.returns-in_ok-unless_lack-in-Err-clause-few
 returns-in_ok-unless_lack-in-Err-clause-few g c from n so =
-    c.finish_bare.ensures.few from n (few_event g.F.Files.device c.args.number from c.args.host.now n so c.open_file.new.self _ _ tt refl c.in-Err.ensures.event)
+    c.finish_without_body.ensures.few from n (few_event g.F.Files.device c.args.number from c.args.host.now n so c.open_file.new.self _ _ tt refl c.in-Err.ensures.event)

@@ -3,7 +3,7 @@ use Rattle.std.proofs.Common.{◌≡◌, ◌++◌, ◌∷◌, [], Option, ap, sy
 use Rattle.std.proofs.lemmas.List.{map-append}
 use Rattle.life_state.specs.declared.state.State.{State}
 use Rattle.life_state.specs.Seen.{seen_some}
-use Rattle.life_cert.specs.declared.growth.Arrival as code
+use Rattle.life_cert.specs.declared.fixpoint.Arrival as code
 use Rattle.life_cert.specs.Rounds.{arriving}
 use Rattle.life_cert.specs.SeenGrowth.{seen_arrival, seen_arrivals}
 use Rattle.life_cert.proofs.handing.hand.Goals as goal

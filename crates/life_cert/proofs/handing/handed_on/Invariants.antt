@@ -8,6 +8,6 @@ use Rattle.life_cert.proofs.handing.handed_on.Given as goal
 
 abbrev pub invariant-loop-place : goal.invariant-loop-place
 invariant-loop-place l = record {
-  left : seen_arrivals l.arrivals.items ++ handed_on l.code (seen_cert l.growth.cert) (drop l.place-index l.growth.grown.items) ≡ handed_on l.code (seen_cert l.growth.cert) l.growth.grown.items;
+  left : seen_arrivals l.arrivals.items ++ handed_on l.code (seen_cert l.fixpoint.cert) (drop l.place-index l.fixpoint.changed.items) ≡ handed_on l.code (seen_cert l.fixpoint.cert) l.fixpoint.changed.items;
   fit : All (IsFit l.code) (seen_arrivals l.arrivals.items);
 }

@@ -7,7 +7,7 @@ use Rattle.life_cert.proofs.maker.round.Given as goal
 
 abbrev pub invariant-loop-arrival : goal.invariant-loop-arrival
 invariant-loop-arrival l = record {
-  left : arrived (drop l.arrival-index (seen_arrivals l.arrival-items)) (seen_growth l.growth) ≡ round l.code (seen_growth l.fn.growth);
-  growing : IsOf l.code (seen_growth l.growth);
+  left : arrived (drop l.arrival-index (seen_arrivals l.arrival-items)) (seen_growth l.fixpoint) ≡ round l.code (seen_growth l.fn.fixpoint);
+  growing : IsOf l.code (seen_growth l.fixpoint);
   fit : All (IsFit l.code) (seen_arrivals l.arrival-items);
 }

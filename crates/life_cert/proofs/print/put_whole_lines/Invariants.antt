@@ -2,9 +2,10 @@
 use Rattle.std.proofs.Common.{false, length, slice_get}
 use Rattle.life_check.specs.Seen.{seen_line}
 use Rattle.life_cert.specs.CertText.{pc_line}
+use Rattle.byte_text.specs.Writes.{writer_state}
 use Rattle.life_cert.proofs.Writing.{LeavesEach}
 use Rattle.life_cert.proofs.print.put_whole_lines.Given as goal
 
 abbrev pub invariant-loop-pc : goal.invariant-loop-pc
 invariant-loop-pc g l =
-    LeavesEach (g.W.Write.contents l.fn.out) (g.W.Write.contents l.out) (length l.at) (pc_line false (λ k. seen_line (slice_get l.at k))) l.pc
+    LeavesEach (writer_state g.W.Write.contents l.fn.out) (writer_state g.W.Write.contents l.out) (length l.at) (pc_line false (λ k. seen_line (slice_get l.at k))) l.pc

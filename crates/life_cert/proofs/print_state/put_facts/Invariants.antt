@@ -1,4 +1,5 @@
 -- The facts of cursors from this one on are left.
+use Rattle.byte_text.specs.Writes.{writer_state}
 use Rattle.life_cert.proofs.Writing.{LeavesEach}
 use Rattle.life_state.specs.Seen.{seen}
 use Rattle.life_cert.specs.StateText.{facts_text}
@@ -6,4 +7,4 @@ use Rattle.life_cert.proofs.print_state.put_facts.Given as goal
 
 abbrev pub invariant-loop-c : goal.invariant-loop-c
 invariant-loop-c g l =
-    LeavesEach (g.W.Write.contents l.fn.out) (g.W.Write.contents l.out) 9 (facts_text (seen l.state)) l.c
+    LeavesEach (writer_state g.W.Write.contents l.fn.out) (writer_state g.W.Write.contents l.out) 9 (facts_text (seen l.state)) l.c

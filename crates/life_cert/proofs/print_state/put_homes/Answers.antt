@@ -1,5 +1,6 @@
 use Rattle.std.proofs.Common.{◌≡◌, ℕ, arith, subst, sym, ◌∙◌}
 use Rattle.life_state.specs.Seen.{seen_homes}
+use Rattle.byte_text.specs.Writes.{writer_state}
 use Rattle.life_cert.proofs.Homes.{LeavesHomes, homes_begin, home_lacks, home_written, comma_fault, name_fault, homes_end}
 use Rattle.life_cert.proofs.print_state.put_homes.Goals as goal
 use Rattle.life_cert.proofs.print_state.put_homes.Goals.{then-has_home+in_ok-put_if+in_ok-put_home, else-has_home}
@@ -29,4 +30,4 @@ pub returns : goal.returns
 returns g c =
     let h = seen_homes c.args.homes.now in
     let last : c.loop-home.home-index ≡ 11 = omega arith in
-    homes_end _ _ _ _ h _ (subst (λ (i : ℕ). LeavesHomes (g.W.Write.contents c.args.out.now) (g.W.Write.contents c.loop-home.out) c.loop-home.any h i) last c.loop-home.invariant) c.put_if-2.ensures
+    homes_end _ _ _ _ h _ (subst (λ (i : ℕ). LeavesHomes (writer_state g.W.Write.contents c.args.out.now) (writer_state g.W.Write.contents c.loop-home.out) c.loop-home.any h i) last c.loop-home.invariant) c.put_if-2.ensures

@@ -2,6 +2,7 @@ use Rattle.std.proofs.Common.{List, ℕ, ◌++◌, ap, codes, length}
 use Rattle.module_code.specs.Program.{Program}
 use Rattle.module_lang.specs.Printing.{printed}
 use Rattle.module_lang.specs.Shown.{shown_declarations, shown_handler}
+use Rattle.byte_text.specs.Writes.{writer_state}
 use Rattle.module_lang.proofs.PrintedText.{printed_is_text}
 use Rattle.module_lang.proofs.ShownLaws.{printed_parts}
 use Rattle.byte_text.proofs.WritingLaws.{Leaves, leaves_fault, leaves_last, leaves_less, leaves_whole}
@@ -21,40 +22,40 @@ from_open m init main end = shown_handler (codes "open") m.texts m.code 0 init +
 
 -- What is left of the text, before it is written and behind each part.
 module _ (g : Over) where
-  none : (c : After-main-main g) → Leaves (g.W.Write.contents c.args.out.now) (g.W.Write.contents c.args.out.now) (printed c.args.module.now)
+  none : (c : After-main-main g) → Leaves (writer_state g.W.Write.contents c.args.out.now) (writer_state g.W.Write.contents c.args.out.now) (printed c.args.module.now)
       (shown_declarations c.args.module.now ++ from_open c.args.module.now c.init-init.result c.main-main.result (length c.code-end.result.now))
   none c =
-      leaves_whole (g.W.Write.contents c.args.out.now) (printed c.args.module.now) _
+      leaves_whole (writer_state g.W.Write.contents c.args.out.now) (printed c.args.module.now) _
       (printed_parts c.args.module.now c.init-init.result c.main-main.result
       (length c.code-end.result.now) c.init-init.ensures.value c.main-main.ensures.value (ap length c.code-end.ensures.value))
 
-  declared : (c : In_ok-put_declarations g) → Leaves (g.W.Write.contents c.args.out.now) (g.W.Write.contents c.args.out.now) (printed c.args.module.now)
+  declared : (c : In_ok-put_declarations g) → Leaves (writer_state g.W.Write.contents c.args.out.now) (writer_state g.W.Write.contents c.args.out.now) (printed c.args.module.now)
       (shown_declarations c.args.module.now ++ (from_open c.args.module.now c.init-init.result c.main-main.result (length c.code-end.result.now)))
-      → Leaves (g.W.Write.contents c.args.out.now) (g.W.Write.contents c.put_declarations.new.out) (printed c.args.module.now)
+      → Leaves (writer_state g.W.Write.contents c.args.out.now) (writer_state g.W.Write.contents c.put_declarations.new.out) (printed c.args.module.now)
       (from_open c.args.module.now c.init-init.result c.main-main.result (length c.code-end.result.now))
-  declared c left = leaves_less _ (g.W.Write.contents c.args.out.now) _ _ _
+  declared c left = leaves_less _ (writer_state g.W.Write.contents c.args.out.now) _ _ _
       (from_open c.args.module.now c.init-init.result c.main-main.result (length c.code-end.result.now)) left c.in_ok-put_declarations.ensures
 
-  opened : (c : In_ok-put_handler g) → Leaves (g.W.Write.contents c.args.out.now) (g.W.Write.contents c.put_declarations.new.out)
+  opened : (c : In_ok-put_handler g) → Leaves (writer_state g.W.Write.contents c.args.out.now) (writer_state g.W.Write.contents c.put_declarations.new.out)
       (printed c.args.module.now) (shown_handler (codes "open") c.args.module.now.texts c.args.module.now.code 0 c.init-init.result ++
       (from_init c.args.module.now c.init-init.result c.main-main.result (length c.code-end.result.now)))
-      → Leaves (g.W.Write.contents c.args.out.now) (g.W.Write.contents c.put_handler.new.out) (printed c.args.module.now)
+      → Leaves (writer_state g.W.Write.contents c.args.out.now) (writer_state g.W.Write.contents c.put_handler.new.out) (printed c.args.module.now)
       (from_init c.args.module.now c.init-init.result c.main-main.result (length c.code-end.result.now))
-  opened c left = leaves_less _ (g.W.Write.contents c.put_declarations.new.out) _ _ _
+  opened c left = leaves_less _ (writer_state g.W.Write.contents c.put_declarations.new.out) _ _ _
       (from_init c.args.module.now c.init-init.result c.main-main.result (length c.code-end.result.now)) left c.in_ok-put_handler.ensures
 
-  begun : (c : In_ok-put_handler-2 g) → Leaves (g.W.Write.contents c.args.out.now) (g.W.Write.contents c.put_handler.new.out) (printed c.args.module.now)
+  begun : (c : In_ok-put_handler-2 g) → Leaves (writer_state g.W.Write.contents c.args.out.now) (writer_state g.W.Write.contents c.put_handler.new.out) (printed c.args.module.now)
       (shown_handler (codes "init") c.args.module.now.texts c.args.module.now.code c.init-init.result c.main-main.result ++
       (from_main c.args.module.now c.main-main.result (length c.code-end.result.now)))
-      → Leaves (g.W.Write.contents c.args.out.now) (g.W.Write.contents c.put_handler-2.new.out) (printed c.args.module.now)
+      → Leaves (writer_state g.W.Write.contents c.args.out.now) (writer_state g.W.Write.contents c.put_handler-2.new.out) (printed c.args.module.now)
       (from_main c.args.module.now c.main-main.result (length c.code-end.result.now))
-  begun c left = leaves_less _ (g.W.Write.contents c.put_handler.new.out) _ _ _
+  begun c left = leaves_less _ (writer_state g.W.Write.contents c.put_handler.new.out) _ _ _
       (from_main c.args.module.now c.main-main.result (length c.code-end.result.now)) left c.in_ok-put_handler-2.ensures
 
-  served : (c : In_ok-put_handler-3 g) → Leaves (g.W.Write.contents c.args.out.now) (g.W.Write.contents c.put_handler-2.new.out) (printed c.args.module.now)
+  served : (c : In_ok-put_handler-3 g) → Leaves (writer_state g.W.Write.contents c.args.out.now) (writer_state g.W.Write.contents c.put_handler-2.new.out) (printed c.args.module.now)
       (shown_handler (codes "main") c.args.module.now.texts c.args.module.now.code c.main-main.result (length c.code-end.result.now) ++ (codes "end\n"))
-      → Leaves (g.W.Write.contents c.args.out.now) (g.W.Write.contents c.put_handler-3.new.out) (printed c.args.module.now) (codes "end\n")
-  served c left = leaves_less _ (g.W.Write.contents c.put_handler-2.new.out) _ _ _ (codes "end\n") left c.in_ok-put_handler-3.ensures
+      → Leaves (writer_state g.W.Write.contents c.args.out.now) (writer_state g.W.Write.contents c.put_handler-3.new.out) (printed c.args.module.now) (codes "end\n")
+  served c left = leaves_less _ (writer_state g.W.Write.contents c.put_handler-2.new.out) _ _ _ (codes "end\n") left c.in_ok-put_handler-3.ensures
 
 pub put_declarations-requires : goal.put_declarations-requires
 put_declarations-requires g c = c.code-end.ensures.sound

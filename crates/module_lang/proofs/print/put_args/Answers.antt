@@ -1,5 +1,6 @@
 use Rattle.std.proofs.Common.{◌++◌}
 use Rattle.module_lang.specs.Shown.{shown_arg, shown_args}
+use Rattle.byte_text.specs.Writes.{writer_state}
 use Rattle.byte_text.proofs.WritingLaws.{Leaves, leaves_all, leaves_less, leaves_fault, leaves_last}
 use Rattle.module_lang.proofs.print.put_args.Given.{Over}
 use Rattle.module_lang.proofs.print.put_args.Goals as goal
@@ -7,31 +8,31 @@ use Rattle.module_lang.proofs.print.put_args.Goals.{In_ok-put_arg, In_ok-put_arg
 
 -- What is left behind each operand.
 module _ (g : Over) where
-  one : (c : In_ok-put_arg g) → Leaves (g.W.Write.contents c.args.out.now) (g.W.Write.contents c.put_arg.new.out)
+  one : (c : In_ok-put_arg g) → Leaves (writer_state g.W.Write.contents c.args.out.now) (writer_state g.W.Write.contents c.put_arg.new.out)
       (shown_args c.args.module.now.texts c.args.args) (shown_arg c.args.module.now.texts c.args.args.second ++
       (shown_arg c.args.module.now.texts c.args.args.third ++ shown_arg c.args.module.now.texts c.args.args.fourth))
-  one c = leaves_less _ (g.W.Write.contents c.args.out.now) _ _ _ (shown_arg c.args.module.now.texts c.args.args.second ++
+  one c = leaves_less _ (writer_state g.W.Write.contents c.args.out.now) _ _ _ (shown_arg c.args.module.now.texts c.args.args.second ++
       (shown_arg c.args.module.now.texts c.args.args.third ++ shown_arg c.args.module.now.texts c.args.args.fourth))
-      (leaves_all (g.W.Write.contents c.args.out.now) (shown_args c.args.module.now.texts c.args.args)) c.in_ok-put_arg.ensures
+      (leaves_all (writer_state g.W.Write.contents c.args.out.now) (shown_args c.args.module.now.texts c.args.args)) c.in_ok-put_arg.ensures
 
-  two : (c : In_ok-put_arg-2 g) → Leaves (g.W.Write.contents c.args.out.now) (g.W.Write.contents c.put_arg.new.out)
+  two : (c : In_ok-put_arg-2 g) → Leaves (writer_state g.W.Write.contents c.args.out.now) (writer_state g.W.Write.contents c.put_arg.new.out)
       (shown_args c.args.module.now.texts c.args.args) (shown_arg c.args.module.now.texts c.args.args.second ++
       (shown_arg c.args.module.now.texts c.args.args.third ++ shown_arg c.args.module.now.texts c.args.args.fourth))
-      → Leaves (g.W.Write.contents c.args.out.now) (g.W.Write.contents c.put_arg-2.new.out) (shown_args c.args.module.now.texts c.args.args)
+      → Leaves (writer_state g.W.Write.contents c.args.out.now) (writer_state g.W.Write.contents c.put_arg-2.new.out) (shown_args c.args.module.now.texts c.args.args)
       (shown_arg c.args.module.now.texts c.args.args.third ++ shown_arg c.args.module.now.texts c.args.args.fourth)
-  two c left = leaves_less _ (g.W.Write.contents c.put_arg.new.out) _ _ _
+  two c left = leaves_less _ (writer_state g.W.Write.contents c.put_arg.new.out) _ _ _
       (shown_arg c.args.module.now.texts c.args.args.third ++ shown_arg c.args.module.now.texts c.args.args.fourth) left c.in_ok-put_arg-2.ensures
 
-  three : (c : In_ok-put_arg-3 g) → Leaves (g.W.Write.contents c.args.out.now) (g.W.Write.contents c.put_arg-2.new.out)
+  three : (c : In_ok-put_arg-3 g) → Leaves (writer_state g.W.Write.contents c.args.out.now) (writer_state g.W.Write.contents c.put_arg-2.new.out)
       (shown_args c.args.module.now.texts c.args.args) (shown_arg c.args.module.now.texts c.args.args.third ++ shown_arg c.args.module.now.texts c.args.args.fourth)
-      → Leaves (g.W.Write.contents c.args.out.now) (g.W.Write.contents c.put_arg-3.new.out) (shown_args c.args.module.now.texts c.args.args)
+      → Leaves (writer_state g.W.Write.contents c.args.out.now) (writer_state g.W.Write.contents c.put_arg-3.new.out) (shown_args c.args.module.now.texts c.args.args)
       (shown_arg c.args.module.now.texts c.args.args.fourth)
-  three c left = leaves_less _ (g.W.Write.contents c.put_arg-2.new.out) _ _ _
+  three c left = leaves_less _ (writer_state g.W.Write.contents c.put_arg-2.new.out) _ _ _
       (shown_arg c.args.module.now.texts c.args.args.fourth) left c.in_ok-put_arg-3.ensures
 
 pub returns-in_err-put_arg : goal.returns-in_err-put_arg
 returns-in_err-put_arg g c =
-    let w = g.W.Write.contents in
+    let w = writer_state g.W.Write.contents in
     let whole = shown_args c.args.module.now.texts c.args.args in
     leaves_fault (w c.args.out.now) (w c.args.out.now) (w c.put_arg.new.out) whole (shown_arg c.args.module.now.texts c.args.args.first)
     (shown_arg c.args.module.now.texts c.args.args.second ++ (shown_arg c.args.module.now.texts c.args.args.third ++ shown_arg c.args.module.now.texts c.args.args.fourth))

@@ -1,13 +1,14 @@
 use Rattle.std.proofs.Common.{◌++◌}
 use Rattle.module_code.specs.Args.{no_arg}
 use Rattle.module_lang.specs.Shown.{shown_code, shown_handler, shown_line}
+use Rattle.byte_text.specs.Writes.{writer_state}
 use Rattle.byte_text.proofs.WritingLaws.{leaves_all, leaves_fault, leaves_last, leaves_less}
 use Rattle.module_lang.proofs.print.put_handler.Goals as goal
 
 pub returns-in_err-put_line : goal.returns-in_err-put_line
 unfolding shown_handler
 returns-in_err-put_line g c =
-    let w = g.W.Write.contents in
+    let w = writer_state g.W.Write.contents in
     let line = shown_line c.args.module.now.texts c.args.word.now no_arg in
     let code = shown_code c.args.module.now.texts c.args.module.now.code c.args.range.start c.args.range.end in
     let whole = line ++ code in
@@ -17,7 +18,7 @@ returns-in_err-put_line g c =
 pub returns : goal.returns
 unfolding shown_handler
 returns g c =
-    let w = g.W.Write.contents in
+    let w = writer_state g.W.Write.contents in
     let line = shown_line c.args.module.now.texts c.args.word.now no_arg in
     let code = shown_code c.args.module.now.texts c.args.module.now.code c.args.range.start c.args.range.end in
     let whole = line ++ code in

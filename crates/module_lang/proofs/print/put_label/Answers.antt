@@ -1,11 +1,12 @@
 use Rattle.std.proofs.Common.{◌∷◌, ◌++◌, []}
 use Rattle.module_lang.specs.Printing.{target_name}
+use Rattle.byte_text.specs.Writes.{writer_state}
 use Rattle.byte_text.proofs.WritingLaws.{leaves_all, leaves_less, leaves_fault, wrote_then}
 use Rattle.module_lang.proofs.print.put_label.Goals as goal
 
 pub returns-in_err-put_name : goal.returns-in_err-put_name
 returns-in_err-put_name g c =
-    let w = g.W.Write.contents in
+    let w = writer_state g.W.Write.contents in
     let name = target_name c.args.number in
     let whole = 58 ∷ name ++ 10 ∷ [] in
     let one = leaves_less (w c.args.out.now) (w c.args.out.now) (w c.put_all.new.out) whole (58 ∷ []) (name ++ 10 ∷ []) (leaves_all (w c.args.out.now) whole) c.in_ok-put_all.ensures in

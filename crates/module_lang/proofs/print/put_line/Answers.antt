@@ -1,11 +1,12 @@
 use Rattle.std.proofs.Common.{◌∷◌, ◌++◌, []}
 use Rattle.module_lang.specs.Shown.{shown_args, shown_line}
+use Rattle.byte_text.specs.Writes.{writer_state}
 use Rattle.byte_text.proofs.WritingLaws.{leaves_all, leaves_less, leaves_fault, leaves_last}
 use Rattle.module_lang.proofs.print.put_line.Goals as goal
 
 pub returns-in_err-put_all : goal.returns-in_err-put_all
 returns-in_err-put_all g c =
-    let w = g.W.Write.contents in
+    let w = writer_state g.W.Write.contents in
     let word = c.args.word.now in
     let whole = shown_line c.args.module.now.texts word c.args.args in
     leaves_fault (w c.args.out.now) (w c.args.out.now) (w c.put_all.new.out) whole word (shown_args c.args.module.now.texts c.args.args ++ 10 ∷ [])
@@ -13,7 +14,7 @@ returns-in_err-put_all g c =
 
 pub returns-in_err-put_args : goal.returns-in_err-put_args
 returns-in_err-put_args g c =
-    let w = g.W.Write.contents in
+    let w = writer_state g.W.Write.contents in
     let word = c.args.word.now in
     let a = shown_args c.args.module.now.texts c.args.args in
     let whole = shown_line c.args.module.now.texts word c.args.args in
@@ -23,7 +24,7 @@ returns-in_err-put_args g c =
 
 pub returns : goal.returns
 returns g c =
-    let w = g.W.Write.contents in
+    let w = writer_state g.W.Write.contents in
     let word = c.args.word.now in
     let a = shown_args c.args.module.now.texts c.args.args in
     let whole = shown_line c.args.module.now.texts word c.args.args in

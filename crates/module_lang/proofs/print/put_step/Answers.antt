@@ -3,6 +3,7 @@ use Rattle.module_lang.specs.Shown.{shown_line, shown_step}
 use Rattle.module_code.specs.Words.{op_text}
 use Rattle.module_code.specs.declared.arg.Args.{Args}
 use Rattle.module_code.specs.declared.word.Op.{Op}
+use Rattle.byte_text.specs.Writes.{writer_state}
 use Rattle.module_lang.proofs.ShownLaws.{args_short, step_shown}
 use Rattle.byte_text.proofs.WritingLaws.{wrote_same}
 use Rattle.module_lang.proofs.print.put_step.Goals as goal
@@ -12,7 +13,7 @@ put_line-requires g c = rw c.parts-op.ensures.value (args_short c.args.module.no
 
 pub returns : goal.returns
 returns g c =
-    let w = g.W.Write.contents in
+    let w = writer_state g.W.Write.contents in
     let i = c.args.instr in
     let ts = c.args.module.now.texts in
     let same : shown_line ts c.text.result.now c.parts-op.result.1 ≡ shown_step ts i =

@@ -5,9 +5,9 @@ use Rattle.bucket_ring.specs.Lists.{numbered}
 use Rattle.bucket_kinds.specs.declared.stored.Stored.{Stored}
 use Rattle.run_model.specs.Pieces.{bucket_of}
 use Rattle.brigade_ops.specs.Store.{next_name}
-use Rattle.stored_rings.specs.Shown.{is_own, own_bucket}
-use Rattle.stored_rings.proofs.Models.{lists_are_the_models}
-use Rattle.stored_rings.proofs.Placing.{all_own, own_shown}
+use Rattle.bucket_store.specs.Shown.{is_own, own_bucket}
+use Rattle.bucket_store.proofs.Models.{lists_are_the_models}
+use Rattle.bucket_store.proofs.Placing.{all_own, own_shown}
 use Rattle.module_run.proofs.conn_bring.call_and_brigade.Goals as goal
 
 pub loose_pair-requires : goal.loose_pair-requires

@@ -2,9 +2,9 @@
 use Rattle.std.proofs.Common.{ℕ, ◌<◌, Option, None, is_some, sym, ap, subst, ◌∙◌}
 use Rattle.bucket_ring.specs.declared.names.BucketId.{BucketId}
 use Rattle.bucket_ring.specs.Lists.{upd}
-use Rattle.stored_rings.specs.Items.{Items}
+use Rattle.bucket_store.specs.Items.{Items}
 use Rattle.brigade_ops.specs.Store.{lists}
-use Rattle.ring_wants.proofs.OnlyAsked.{asked_once, lists_same, next_same, places_same, pools_same, references_same}
+use Rattle.interp_checks.proofs.OnlyAsked.{asked_once, lists_same, next_same, places_same, pools_same, references_same}
 use Rattle.module_run.proofs.Leaving.{none_stays}
 use Rattle.module_run.proofs.conn_close.end_brigade.Goals as goal
 

@@ -1,6 +1,6 @@
 -- What is left of the pieces decides.
 use Rattle.std.proofs.Common.{◌≡◌, false, drop}
-use Rattle.ring_passes.specs.Pieces.{late_piece}
+use Rattle.interp_calls.specs.Pieces.{late_piece}
 use Rattle.module_run.proofs.pieces.has_late_data.Given as goal
 
 abbrev pub invariant-loop-piece : goal.invariant-loop-piece

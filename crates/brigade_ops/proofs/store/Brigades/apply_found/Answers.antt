@@ -3,11 +3,11 @@ use Rattle.std.specs.Option.{option_map}
 use Rattle.std.proofs.lemmas.List.{drop_more, drop_all}
 use Rattle.run_model.specs.declared.bucket.Home.TheVariants as home
 use Rattle.run_model.specs.declared.bucket.Kind.TheVariants as kind
-use Rattle.stored_rings.specs.declared.morph.Morph.{Morph}
-use Rattle.stored_rings.specs.Morphs.{all_morphed}
+use Rattle.bucket_store.specs.declared.morph.Morph.{Morph}
+use Rattle.bucket_store.specs.Morphs.{all_morphed}
 use Rattle.brigade_ops.proofs.OnlyLists.{only_none, only_twice}
 use Rattle.brigade_ops.specs.Store.{lists}
-use Rattle.stored_rings.proofs.Cleared.{morphs_step, morphs_none}
+use Rattle.bucket_store.proofs.Cleared.{morphs_step, morphs_none}
 use Rattle.brigade_ops.proofs.store.Brigades.apply_found.Goals as goal
 
 pub loop-morph-init : goal.loop-morph-init

@@ -1,7 +1,7 @@
 -- What is left to do makes of the store what all of it makes of the store that was.
 use Rattle.std.proofs.Common.{◌≡◌, ℕ, drop}
 use Rattle.std.specs.Option.{option_map}
-use Rattle.stored_rings.specs.Morphs.{all_morphed}
+use Rattle.bucket_store.specs.Morphs.{all_morphed}
 use Rattle.brigade_ops.specs.OnlyLists.{OnlyLists}
 use Rattle.brigade_ops.specs.Store.{lists}
 use Rattle.brigade_ops.proofs.store.Brigades.apply_found.Given as goal

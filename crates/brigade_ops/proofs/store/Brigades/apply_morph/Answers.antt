@@ -1,13 +1,13 @@
 use Rattle.std.proofs.Common.{◌≡◌, None, is_some, sym, ap, ◌∙◌}
 use Rattle.bucket_ring.specs.Lists.{list_at}
 use Rattle.bucket_ring.specs.Kept.{once_in}
-use Rattle.stored_rings.specs.Items.{Items}
+use Rattle.bucket_store.specs.Items.{Items}
 use Rattle.brigade_ops.specs.Store.{lists, brigade_of, bucket_at}
-use Rattle.stored_rings.proofs.Lists.{some_of}
-use Rattle.stored_rings.proofs.Saves.{found_some, here_at}
-use Rattle.stored_rings.proofs.Cleared.{absent_kept, once_kept, not_some_none}
-use Rattle.stored_rings.specs.Shelf.{seen}
-use Rattle.stored_rings.proofs.Shelves.{counted, found_in}
+use Rattle.bucket_store.proofs.Lists.{some_of}
+use Rattle.bucket_store.proofs.Saves.{found_some, here_at}
+use Rattle.bucket_store.proofs.Cleared.{absent_kept, once_kept, not_some_none}
+use Rattle.bucket_store.specs.BucketStore.{seen}
+use Rattle.bucket_store.proofs.BucketStores.{counted, found_in}
 use Rattle.brigade_ops.proofs.store.Brigades.apply_morph.Goals as goal
 
 pub returns-then-is_some-clause-out : goal.returns-then-is_some-clause-out

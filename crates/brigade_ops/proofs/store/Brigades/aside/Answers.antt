@@ -5,12 +5,12 @@ use Rattle.run_model.specs.Steps.{is_above}
 use Rattle.pool_tree.specs.Tree.{map_of}
 use Rattle.bucket_ring.specs.declared.names.BucketId.{BucketId}
 use Rattle.bucket_ring.specs.Lists.{on, list_at, with_payload}
-use Rattle.stored_rings.specs.Items.{Items, count_for, pools_for}
+use Rattle.bucket_store.specs.Items.{Items, count_for, pools_for}
 use Rattle.brigade_ops.specs.Store.{lists, brigade_of, pool_of, references}
 use Rattle.brigade_ops.proofs.Added.{none_since}
 use Rattle.brigade_ops.proofs.Housed.{house_stays, on_some}
-use Rattle.stored_rings.proofs.Lists.{some_of}
-use Rattle.stored_rings.proofs.Saves.{found_some}
+use Rattle.bucket_store.proofs.Lists.{some_of}
+use Rattle.bucket_store.proofs.Saves.{found_some}
 use Rattle.brigade_ops.proofs.Stores.{found_in, found_bucket}
 use Rattle.brigade_ops.proofs.store.Brigades.aside.Goals as goal
 

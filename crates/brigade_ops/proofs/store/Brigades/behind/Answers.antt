@@ -1,7 +1,7 @@
 use Rattle.std.proofs.Common.{◌≡◌, ℕ, Some, [], ◌∷◌, drop, sym, ap, ◌∙◌}
 use Rattle.bucket_ring.specs.Lists.{list_at, times, rest, first_of}
 use Rattle.bucket_ring.specs.Laws.{next_found}
-use Rattle.stored_rings.specs.Items.{Item, Items, from_place}
+use Rattle.bucket_store.specs.Items.{Item, Items, from_place}
 use Rattle.bucket_ring.specs.declared.names.BucketId.{BucketId}
 use Rattle.bucket_ring.specs.declared.rings.Rings.{Ghosts}
 use Rattle.bucket_kinds.specs.declared.stored.Stored.{Stored}
@@ -9,10 +9,10 @@ use Rattle.run_model.specs.declared.bucket.Bucket.{Bucket}
 use Rattle.brigade_ops.specs.declared.store.Brigades.{Brigades}
 use Rattle.brigade_ops.proofs.Stores.{bucket_found}
 use Rattle.brigade_ops.specs.Store.{lists, brigade_of, bucket_at}
-use Rattle.stored_rings.proofs.Lists.{rest_head}
-use Rattle.stored_rings.proofs.Walks.{once_listed, behind_some, behind_none, goes_on, goes_no_further}
-use Rattle.stored_rings.specs.Shelf.{seen}
-use Rattle.stored_rings.proofs.Shelves.{counted, in_found}
+use Rattle.bucket_store.proofs.Lists.{rest_head}
+use Rattle.bucket_store.proofs.Walks.{once_listed, behind_some, behind_none, goes_on, goes_no_further}
+use Rattle.bucket_store.specs.BucketStore.{seen}
+use Rattle.bucket_store.proofs.BucketStores.{counted, in_found}
 use Rattle.brigade_ops.proofs.store.Brigades.behind.Goals as goal
 
 -- what is left at a bucket, where it is known what is left behind it

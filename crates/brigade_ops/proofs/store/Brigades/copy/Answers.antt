@@ -2,8 +2,8 @@ use Rattle.std.proofs.Common.{◌≡◌, sym, ap, ◌∙◌}
 use Rattle.std.proofs.lemmas.Option.{same_Some}
 use Rattle.bucket_ring.specs.Lists.{put_tail}
 use Rattle.bucket_kinds.specs.Stored.{shown}
-use Rattle.stored_rings.specs.declared.regions.Regions.{Regions}
-use Rattle.stored_rings.specs.Regions.{look}
+use Rattle.bucket_store.specs.declared.regions.Regions.{Regions}
+use Rattle.bucket_store.specs.Regions.{look}
 use Rattle.brigade_ops.proofs.Added.{added_to, still_there}
 use Rattle.brigade_ops.proofs.store.Brigades.copy.Goals as goal
 

@@ -14,7 +14,7 @@ use Rattle.brigade_ops.specs.Store.{lists, brigade_of, pool_of, next_name, refer
 use Rattle.brigade_ops.proofs.Housed.{house_stays, house_made}
 use Rattle.brigade_ops.proofs.Stores.{brigades}
 use Rattle.brigade_ops.proofs.Undone.{killed_again, live_registered}
-use Rattle.stored_rings.specs.Shelf.{seen}
+use Rattle.bucket_store.specs.BucketStore.{seen}
 use Rattle.brigade_ops.proofs.store.Brigades.create.Goals as goal
 
 pub kill-killed-requires : goal.kill-killed-requires

@@ -3,19 +3,19 @@ use Rattle.std.proofs.lemmas.Bool.{and_parts, eqb-true, false≢true}
 use Rattle.std.proofs.lemmas.List.{take_more, take_all}
 use Rattle.run_model.specs.Pools.{is_in}
 use Rattle.bucket_ring.specs.declared.names.BucketId.{BucketId}
-use Rattle.stored_rings.specs.Dependents.{names_of, noted}
+use Rattle.bucket_store.specs.Dependents.{names_of, noted}
 use Rattle.run_model.specs.declared.bucket.Bucket.{Bucket}
 use Rattle.bucket_kinds.specs.Stored.{shown}
 use Rattle.brigade_ops.specs.Due.{is_reached}
-use Rattle.stored_rings.specs.Due.{depends, is_due}
-use Rattle.stored_rings.specs.Regions.{look}
-use Rattle.stored_rings.specs.Shelf.{seen}
-use Rattle.stored_rings.proofs.Shown.{found_stored}
-use Rattle.stored_rings.specs.Morphs.{is_named}
+use Rattle.bucket_store.specs.Due.{depends, is_due}
+use Rattle.bucket_store.specs.Regions.{look}
+use Rattle.bucket_store.specs.BucketStore.{seen}
+use Rattle.bucket_store.proofs.Shown.{found_stored}
+use Rattle.bucket_store.specs.Morphs.{is_named}
 use Rattle.brigade_ops.specs.Store.{lists, brigade_of, bucket_at}
-use Rattle.stored_rings.proofs.DueBuckets.{named_filtered, named_joined, either_named, first_named, second_named, in_pushed, due_parts, under_one}
-use Rattle.stored_rings.proofs.Noted.{all_found}
-use Rattle.stored_rings.specs.Noted.{is_noted}
+use Rattle.bucket_store.proofs.DueBuckets.{named_filtered, named_joined, either_named, first_named, second_named, in_pushed, due_parts, under_one}
+use Rattle.bucket_store.proofs.Noted.{all_found}
+use Rattle.bucket_store.specs.Noted.{is_noted}
 use Rattle.brigade_ops.proofs.Stores.{bucket_found}
 use Rattle.brigade_ops.proofs.store.Brigades.due_names.Goals as goal
 

@@ -2,10 +2,10 @@
 use Rattle.std.proofs.Common.{◌≡◌, ℕ, true, take}
 use Rattle.run_model.specs.Pools.{is_in}
 use Rattle.bucket_ring.specs.declared.names.BucketId.{BucketId}
-use Rattle.stored_rings.specs.Dependents.{names_of}
+use Rattle.bucket_store.specs.Dependents.{names_of}
 use Rattle.brigade_ops.specs.Due.{is_reached}
-use Rattle.stored_rings.specs.Due.{is_due}
-use Rattle.stored_rings.specs.Morphs.{is_named}
+use Rattle.bucket_store.specs.Due.{is_due}
+use Rattle.bucket_store.specs.Morphs.{is_named}
 use Rattle.brigade_ops.specs.Store.{brigade_of, bucket_at}
 use Rattle.brigade_ops.proofs.store.Brigades.due_names.Given as goal
 

@@ -6,8 +6,8 @@ use Rattle.run_model.specs.declared.payload.Payload.{Payload}
 use Rattle.run_model.specs.Pools.{Pools}
 use Rattle.run_model.specs.Steps.{file_of, is_above}
 use Rattle.pool_tree.specs.Tree.{map_of}
-use Rattle.stored_rings.specs.Items.{file_for}
-use Rattle.stored_rings.specs.Views.{bucket_of}
+use Rattle.bucket_store.specs.Items.{file_for}
+use Rattle.bucket_store.specs.Views.{bucket_of}
 use Rattle.brigade_ops.proofs.store.Brigades.file_for.Goals as goal
 
 told : (ps : Pools Payload) (pool : ℕ) (x y : Bucket) (b : Bool) → Some y ≡ Some x → is_above ps pool y.home ≡ b

@@ -4,10 +4,10 @@ use Rattle.run_model.specs.declared.bucket.Bucket.{Bucket}
 use Rattle.run_model.specs.Steps.{new_ref, is_above}
 use Rattle.pool_tree.specs.Tree.{map_of}
 use Rattle.bucket_ring.specs.Lists.{list_at, rest, found}
-use Rattle.stored_rings.specs.Items.{Items, named, from_place, file_for}
+use Rattle.bucket_store.specs.Items.{Items, named, from_place, file_for}
 use Rattle.brigade_ops.specs.Store.{lists, brigade_of}
-use Rattle.stored_rings.proofs.Walks.{told_some, fewer_behind}
-use Rattle.stored_rings.proofs.Saves.{found_some, files_step, none_put}
+use Rattle.bucket_store.proofs.Walks.{told_some, fewer_behind}
+use Rattle.bucket_store.proofs.Saves.{found_some, files_step, none_put}
 use Rattle.brigade_ops.proofs.Stores.{found_in, found_bucket}
 use Rattle.brigade_ops.proofs.store.Brigades.files_for.Goals as goal
 use Rattle.brigade_ops.proofs.store.Brigades.files_for.Goals.{After-file_for-file}

@@ -4,7 +4,7 @@ use Rattle.run_model.specs.Steps.{new_ref}
 use Rattle.pool_tree.specs.Tree.{map_of}
 use Rattle.bucket_ring.specs.declared.names.BucketId.{BucketId}
 use Rattle.bucket_ring.specs.Lists.{list_at}
-use Rattle.stored_rings.specs.Items.{named, from_place}
+use Rattle.bucket_store.specs.Items.{named, from_place}
 use Rattle.brigade_ops.specs.Store.{lists, brigade_of}
 use Rattle.brigade_ops.proofs.store.Brigades.files_for.Given as goal
 

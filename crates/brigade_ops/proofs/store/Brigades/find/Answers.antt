@@ -2,8 +2,8 @@
 use Rattle.std.proofs.Common.{◌≡◌, ◌≢◌, zero, suc, ℕ, Option, None, Some, refl, sym, ap, ◌∙◌}
 use Rattle.bucket_ring.specs.declared.names.BucketId.{BucketId}
 use Rattle.bucket_ring.specs.Lists.{list_at}
-use Rattle.stored_rings.specs.declared.parting.Point.TheVariants as point
-use Rattle.stored_rings.specs.Points.{point_in}
+use Rattle.bucket_store.specs.declared.parting.Point.TheVariants as point
+use Rattle.bucket_store.specs.Points.{point_in}
 use Rattle.brigade_ops.specs.Store.{lists}
 use Rattle.brigade_ops.proofs.Visited.{come_to, point_found}
 use Rattle.brigade_ops.proofs.store.Brigades.find.Goals as goal

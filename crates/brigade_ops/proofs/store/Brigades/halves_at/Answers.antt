@@ -5,10 +5,10 @@ use Rattle.run_model.specs.Cutting.{split_at}
 use Rattle.bucket_kinds.specs.declared.stored.Stored.{Stored}
 use Rattle.bucket_kinds.specs.Stored.{shown}
 use Rattle.bucket_kinds.proofs.Places.{parts_shown}
-use Rattle.stored_rings.specs.Regions.{look}
-use Rattle.stored_rings.specs.Shown.{lies_right}
-use Rattle.stored_rings.proofs.Lying.{front_lies, rest_lies}
-use Rattle.stored_rings.proofs.Shown.{if_ok_and, if_ok_then}
+use Rattle.bucket_store.specs.Regions.{look}
+use Rattle.bucket_store.specs.Shown.{lies_right}
+use Rattle.bucket_store.proofs.Lying.{front_lies, rest_lies}
+use Rattle.bucket_store.proofs.Shown.{if_ok_and, if_ok_then}
 use Rattle.brigade_ops.proofs.store.Brigades.halves_at.Goals as goal
 
 pub returns-clause-rest : goal.returns-clause-rest

@@ -6,16 +6,16 @@ use Rattle.run_model.specs.Cutting.{length_of}
 use Rattle.run_model.specs.declared.bucket.Bucket.{Bucket}
 use Rattle.bucket_ring.specs.declared.names.BucketId.{BucketId}
 use Rattle.bucket_ring.specs.Lists.{list_at}
-use Rattle.stored_rings.specs.declared.refusal.SplitRefusal.{SplitRefusal}
-use Rattle.stored_rings.specs.declared.parting.Point.{Point}
-use Rattle.stored_rings.specs.declared.parting.Point.TheVariants.{At, Inside}
-use Rattle.stored_rings.specs.Points.{cut_at, is_inside}
-use Rattle.stored_rings.specs.Items.{Items}
+use Rattle.bucket_store.specs.declared.refusal.SplitRefusal.{SplitRefusal}
+use Rattle.bucket_store.specs.declared.parting.Point.{Point}
+use Rattle.bucket_store.specs.declared.parting.Point.TheVariants.{At, Inside}
+use Rattle.bucket_store.specs.Points.{cut_at, is_inside}
+use Rattle.bucket_store.specs.Items.{Items}
 use Rattle.brigade_ops.specs.Store.{lists, brigade_of, bucket_at, next_name}
-use Rattle.stored_rings.proofs.Parts.{inside_short, bytes_are_data}
-use Rattle.stored_rings.proofs.Saves.{found_some}
+use Rattle.bucket_store.proofs.Parts.{inside_short, bytes_are_data}
+use Rattle.bucket_store.proofs.Saves.{found_some}
 use Rattle.brigade_ops.proofs.Stores.{counted, found_in, found_bucket}
-use Rattle.stored_rings.proofs.Walks.{once_listed}
+use Rattle.bucket_store.proofs.Walks.{once_listed}
 use Rattle.brigade_ops.proofs.store.Brigades.partition.Goals as goal
 use Rattle.brigade_ops.proofs.store.Brigades.partition.Goals.{In-Inside}
 

@@ -2,14 +2,14 @@ use Rattle.std.proofs.Common.{◌≡◌, ◌≢◌, ◌+◌, ℕ, true, false, c
 use Rattle.std.proofs.lemmas.List.{take_more, take_all}
 use Rattle.run_model.specs.declared.bucket.Bucket.{Bucket}
 use Rattle.run_model.specs.Pools.{is_in}
-use Rattle.stored_rings.specs.declared.morph.Morph.{Morph}
+use Rattle.bucket_store.specs.declared.morph.Morph.{Morph}
 use Rattle.brigade_ops.specs.Due.{is_reached}
-use Rattle.stored_rings.specs.Morphs.{morphed, cleared_as}
+use Rattle.bucket_store.specs.Morphs.{morphed, cleared_as}
 use Rattle.brigade_ops.specs.Store.{lists, brigade_of}
-use Rattle.stored_rings.proofs.Cleared.{morphed_none}
+use Rattle.bucket_store.proofs.Cleared.{morphed_none}
 use Rattle.brigade_ops.proofs.Plans.{as_it_was, ring_step, ring_made, bucket_in}
 use Rattle.brigade_ops.proofs.Stores.{counted, in_found, found_bucket, brigade_there}
-use Rattle.stored_rings.proofs.Walks.{once_listed}
+use Rattle.bucket_store.proofs.Walks.{once_listed}
 use Rattle.brigade_ops.proofs.store.Brigades.plan_by_walk.Goals.{then-has_ring+in_ok-plan_ring, else-has_ring}
 use Rattle.brigade_ops.proofs.store.Brigades.plan_by_walk.Goals as goal
 

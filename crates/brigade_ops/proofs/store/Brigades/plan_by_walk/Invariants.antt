@@ -4,7 +4,7 @@ use Rattle.run_model.specs.declared.bucket.Bucket.{Bucket}
 use Rattle.run_model.specs.Pools.{is_in}
 use Rattle.bucket_ring.specs.declared.names.BucketId.{BucketId}
 use Rattle.brigade_ops.specs.Due.{is_reached}
-use Rattle.stored_rings.specs.Morphs.{morphed, cleared_as}
+use Rattle.bucket_store.specs.Morphs.{morphed, cleared_as}
 use Rattle.brigade_ops.specs.Store.{brigade_of, bucket_at}
 use Rattle.brigade_ops.proofs.store.Brigades.plan_by_walk.Given as goal
 

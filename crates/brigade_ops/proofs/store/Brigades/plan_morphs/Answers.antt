@@ -5,12 +5,12 @@ use Rattle.pool_tree.specs.Tree.{map_of}
 use Rattle.bucket_ring.specs.declared.names.BucketId.{BucketId}
 use Rattle.brigade_ops.specs.Due.{is_reached}
 use Rattle.brigade_ops.specs.House.{cleared_items}
-use Rattle.stored_rings.specs.Morphs.{all_morphed, cleared_as, is_named}
+use Rattle.bucket_store.specs.Morphs.{all_morphed, cleared_as, is_named}
 use Rattle.brigade_ops.specs.Store.{lists, brigade_of, bucket_at}
-use Rattle.stored_rings.proofs.DueBuckets.{due_made, due_is}
+use Rattle.bucket_store.proofs.DueBuckets.{due_made, due_is}
 use Rattle.brigade_ops.proofs.Plans.{ring_made}
 use Rattle.brigade_ops.proofs.Stores.{counted, in_found, found_bucket}
-use Rattle.stored_rings.proofs.Walks.{once_listed}
+use Rattle.bucket_store.proofs.Walks.{once_listed}
 use Rattle.brigade_ops.proofs.store.Brigades.plan_morphs.Goals as goal
 
 pub returns-then-is_lost-clause-made : goal.returns-then-is_lost-clause-made

@@ -5,13 +5,13 @@ use Rattle.run_model.specs.Buckets.{to_heap, end_pools}
 use Rattle.bucket_ring.specs.declared.names.BucketId.{BucketId}
 use Rattle.bucket_ring.specs.Laws.{same_name}
 use Rattle.bucket_ring.specs.Lists.{list_at, same, found}
-use Rattle.stored_rings.specs.declared.morph.Morph.{Morph}
+use Rattle.bucket_store.specs.declared.morph.Morph.{Morph}
 use Rattle.brigade_ops.specs.Due.{is_reached}
-use Rattle.stored_rings.specs.Morphs.{morphed, cleared_as, is_named}
+use Rattle.bucket_store.specs.Morphs.{morphed, cleared_as, is_named}
 use Rattle.brigade_ops.specs.Store.{brigade_of, bucket_at}
-use Rattle.stored_rings.proofs.Walks.{if_some, told_some}
-use Rattle.stored_rings.proofs.Cleared.{morphed_none, at_some, none_there, plan_step}
-use Rattle.stored_rings.specs.Shelf.{seen}
+use Rattle.bucket_store.proofs.Walks.{if_some, told_some}
+use Rattle.bucket_store.proofs.Cleared.{morphed_none, at_some, none_there, plan_step}
+use Rattle.bucket_store.specs.BucketStore.{seen}
 use Rattle.brigade_ops.proofs.store.Brigades.plan_morphs_of.Goals as goal
 
 pub loop-name-init : goal.loop-name-init

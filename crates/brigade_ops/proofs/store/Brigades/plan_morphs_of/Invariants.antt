@@ -3,7 +3,7 @@ use Rattle.std.proofs.Common.{◌≡◌, Some, cond, take}
 use Rattle.run_model.specs.declared.bucket.Bucket.{Bucket}
 use Rattle.bucket_ring.specs.declared.names.BucketId.{BucketId}
 use Rattle.brigade_ops.specs.Due.{is_reached}
-use Rattle.stored_rings.specs.Morphs.{morphed, cleared_as, is_named}
+use Rattle.bucket_store.specs.Morphs.{morphed, cleared_as, is_named}
 use Rattle.brigade_ops.specs.Store.{bucket_at}
 use Rattle.brigade_ops.proofs.store.Brigades.plan_morphs_of.Given as goal
 

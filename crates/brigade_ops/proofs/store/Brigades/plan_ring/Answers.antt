@@ -6,16 +6,16 @@ use Rattle.bucket_ring.specs.declared.names.BucketId.{BucketId}
 use Rattle.bucket_ring.specs.Lists.{list_at, times, same}
 use Rattle.bucket_ring.specs.Kept.{once_in}
 use Rattle.bucket_ring.specs.Laws.{once_here, same_name}
-use Rattle.stored_rings.specs.declared.morph.Morph.{Morph}
-use Rattle.stored_rings.specs.Items.{Items, from_place}
+use Rattle.bucket_store.specs.declared.morph.Morph.{Morph}
+use Rattle.bucket_store.specs.Items.{Items, from_place}
 use Rattle.brigade_ops.specs.Due.{is_reached}
-use Rattle.stored_rings.specs.Morphs.{morphed, cleared_as}
+use Rattle.bucket_store.specs.Morphs.{morphed, cleared_as}
 use Rattle.brigade_ops.specs.Store.{lists, brigade_of, bucket_at}
 use Rattle.brigade_ops.proofs.Plans.{other_kept, this_ready}
-use Rattle.stored_rings.proofs.Names.{later_times}
-use Rattle.stored_rings.proofs.Saves.{found_some}
+use Rattle.bucket_store.proofs.Names.{later_times}
+use Rattle.bucket_store.proofs.Saves.{found_some}
 use Rattle.brigade_ops.proofs.Stores.{counted, found_in, found_bucket}
-use Rattle.stored_rings.proofs.Walks.{if_some, told_some, fewer_behind}
+use Rattle.bucket_store.proofs.Walks.{if_some, told_some, fewer_behind}
 use Rattle.brigade_ops.proofs.store.Brigades.plan_ring.Goals as goal
 
 pub loop-place-init : goal.loop-place-init

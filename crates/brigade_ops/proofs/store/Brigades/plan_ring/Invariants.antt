@@ -3,9 +3,9 @@ use Rattle.std.proofs.Common.{◌≡◌, ◌≢◌, ℕ, Some, length}
 use Rattle.run_model.specs.declared.bucket.Bucket.{Bucket}
 use Rattle.bucket_ring.specs.declared.names.BucketId.{BucketId}
 use Rattle.bucket_ring.specs.Lists.{list_at, times}
-use Rattle.stored_rings.specs.Items.{from_place}
+use Rattle.bucket_store.specs.Items.{from_place}
 use Rattle.brigade_ops.specs.Due.{is_reached}
-use Rattle.stored_rings.specs.Morphs.{morphed, cleared_as, IsAsItWas}
+use Rattle.bucket_store.specs.Morphs.{morphed, cleared_as, IsAsItWas}
 use Rattle.brigade_ops.specs.Store.{lists, brigade_of, bucket_at}
 use Rattle.brigade_ops.proofs.store.Brigades.plan_ring.Given as goal
 

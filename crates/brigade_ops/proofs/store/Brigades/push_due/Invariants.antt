@@ -1,7 +1,7 @@
 -- Those of the names so far that are due stand behind the others.
 use Rattle.std.proofs.Common.{◌≡◌, ◌++◌, filter, take}
 use Rattle.brigade_ops.specs.Due.{is_reached}
-use Rattle.stored_rings.specs.Due.{is_due}
+use Rattle.bucket_store.specs.Due.{is_due}
 use Rattle.brigade_ops.specs.Store.{brigade_of, bucket_at}
 use Rattle.brigade_ops.proofs.store.Brigades.push_due.Given as goal
 

@@ -5,14 +5,14 @@ use Rattle.run_model.specs.Steps.{is_above}
 use Rattle.pool_tree.specs.Tree.{map_of}
 use Rattle.brigade_ops.proofs.OnlyLists.{only_twice}
 use Rattle.bucket_ring.specs.Lists.{on, list_at, found, rest, with_payload}
-use Rattle.stored_rings.specs.Views.{bucket_of}
-use Rattle.stored_rings.specs.Items.{Items, from_place, aside_behind}
+use Rattle.bucket_store.specs.Views.{bucket_of}
+use Rattle.bucket_store.specs.Items.{Items, from_place, aside_behind}
 use Rattle.brigade_ops.specs.Store.{lists, brigade_of, bucket_at}
-use Rattle.stored_rings.proofs.Lists.{and_then_told, found_set, list_on, on_after, on_same}
-use Rattle.stored_rings.proofs.Walks.{told_some}
-use Rattle.stored_rings.proofs.Saves.{aside_step, fewer_left, none_left}
-use Rattle.stored_rings.specs.Shelf.{seen}
-use Rattle.stored_rings.proofs.Shelves.{found_in, in_found, ring_there}
+use Rattle.bucket_store.proofs.Lists.{and_then_told, found_set, list_on, on_after, on_same}
+use Rattle.bucket_store.proofs.Walks.{told_some}
+use Rattle.bucket_store.proofs.Saves.{aside_step, fewer_left, none_left}
+use Rattle.bucket_store.specs.BucketStore.{seen}
+use Rattle.bucket_store.proofs.BucketStores.{found_in, in_found, ring_there}
 use Rattle.brigade_ops.proofs.store.Brigades.put_all_aside.Goals as goal
 use Rattle.brigade_ops.proofs.store.Brigades.put_all_aside.Goals.{After-put_aside}
 

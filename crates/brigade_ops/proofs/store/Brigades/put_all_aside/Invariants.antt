@@ -4,7 +4,7 @@ use Rattle.pool_tree.specs.Tree.{map_of}
 use Rattle.bucket_ring.specs.declared.names.BucketId.{BucketId}
 use Rattle.bucket_ring.specs.Lists.{on, list_at}
 use Rattle.brigade_ops.specs.OnlyLists.{OnlyLists}
-use Rattle.stored_rings.specs.Items.{from_place, aside_behind}
+use Rattle.bucket_store.specs.Items.{from_place, aside_behind}
 use Rattle.brigade_ops.specs.Store.{lists, brigade_of}
 use Rattle.brigade_ops.proofs.store.Brigades.put_all_aside.Given as goal
 

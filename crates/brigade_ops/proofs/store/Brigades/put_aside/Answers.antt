@@ -6,15 +6,15 @@ use Rattle.bucket_ring.specs.Lists.{on, list_at, found, with_payload}
 use Rattle.bucket_kinds.specs.declared.stored.Kept.{Kept}
 use Rattle.bucket_kinds.specs.declared.stored.Stored.{Stored}
 use Rattle.bucket_kinds.specs.Stored.{is_whole, shown}
-use Rattle.stored_rings.specs.declared.regions.Regions.{Regions}
-use Rattle.stored_rings.specs.Regions.{look}
-use Rattle.stored_rings.specs.Items.{Items}
-use Rattle.stored_rings.specs.Shown.{lies_right}
+use Rattle.bucket_store.specs.declared.regions.Regions.{Regions}
+use Rattle.bucket_store.specs.Regions.{look}
+use Rattle.bucket_store.specs.Items.{Items}
+use Rattle.bucket_store.specs.Shown.{lies_right}
 use Rattle.brigade_ops.specs.Store.{lists, brigade_of, bucket_at}
-use Rattle.stored_rings.proofs.Lying.{aside_lies}
-use Rattle.stored_rings.proofs.Lists.{list_on, on_after, set_twice, found_set, still_in, and_then_told}
-use Rattle.stored_rings.specs.Shelf.{seen}
-use Rattle.stored_rings.proofs.Shelves.{found_in, in_found, ring_there}
+use Rattle.bucket_store.proofs.Lying.{aside_lies}
+use Rattle.bucket_store.proofs.Lists.{list_on, on_after, set_twice, found_set, still_in, and_then_told}
+use Rattle.bucket_store.specs.BucketStore.{seen}
+use Rattle.bucket_store.proofs.BucketStores.{found_in, in_found, ring_there}
 use Rattle.brigade_ops.proofs.store.Brigades.put_aside.Goals as goal
 use Rattle.brigade_ops.proofs.store.Brigades.put_aside.Goals.{After-put-bucket}
 

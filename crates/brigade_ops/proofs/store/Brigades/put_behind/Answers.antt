@@ -2,12 +2,12 @@ use Rattle.std.proofs.Common.{◌≡◌, ℕ, is_some, Some, ap, ◌∙◌, arit
 use Rattle.bucket_ring.specs.Lists.{list_at, found, put_after, times}
 use Rattle.bucket_ring.specs.Kept.{once_in}
 use Rattle.bucket_kinds.specs.Stored.{shown}
-use Rattle.stored_rings.specs.Items.{Item, Items}
-use Rattle.stored_rings.specs.Regions.{look}
-use Rattle.stored_rings.specs.Shelf.{seen}
+use Rattle.bucket_store.specs.Items.{Item, Items}
+use Rattle.bucket_store.specs.Regions.{look}
+use Rattle.bucket_store.specs.BucketStore.{seen}
 use Rattle.brigade_ops.specs.Store.{lists, brigade_of}
-use Rattle.stored_rings.proofs.Lists.{list_on, found_behind, found_put, not_some}
-use Rattle.stored_rings.proofs.Shelves.{counted, found_in, in_found, ring_there, young}
+use Rattle.bucket_store.proofs.Lists.{list_on, found_behind, found_put, not_some}
+use Rattle.bucket_store.proofs.BucketStores.{counted, found_in, in_found, ring_there, young}
 use Rattle.brigade_ops.proofs.store.Brigades.put_behind.Goals as goal
 use Rattle.brigade_ops.proofs.store.Brigades.put_behind.Goals.{After-add_after}
 

@@ -4,9 +4,9 @@ use Rattle.run_model.specs.declared.bucket.Bucket.{Bucket}
 use Rattle.bucket_ring.specs.Lists.{list_at, found}
 use Rattle.brigade_ops.specs.Reads.{IsBucketRead}
 use Rattle.brigade_ops.specs.Store.{lists, brigade_of, bucket_at, next_name}
-use Rattle.stored_rings.proofs.Lists.{and_then_told}
+use Rattle.bucket_store.proofs.Lists.{and_then_told}
 use Rattle.brigade_ops.proofs.Unread.{unread_is}
-use Rattle.stored_rings.specs.Shelf.{seen}
+use Rattle.bucket_store.specs.BucketStore.{seen}
 use Rattle.brigade_ops.proofs.store.Brigades.read.Goals as goal
 
 pub read_range-requires-clause-ends : goal.read_range-requires-clause-ends

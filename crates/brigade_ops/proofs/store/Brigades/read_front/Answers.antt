@@ -4,13 +4,13 @@ use Rattle.run_model.specs.Cutting.{read_of}
 use Rattle.bucket_ring.specs.Lists.{on, list_at, put_after, with_payload}
 use Rattle.bucket_kinds.specs.declared.stored.Stored.{Stored}
 use Rattle.bucket_kinds.specs.Stored.{shown}
-use Rattle.stored_rings.specs.Regions.{look}
-use Rattle.stored_rings.specs.Items.{Item, Items, replaced}
+use Rattle.bucket_store.specs.Regions.{look}
+use Rattle.bucket_store.specs.Items.{Item, Items, replaced}
 use Rattle.brigade_ops.specs.Store.{lists, brigade_of}
-use Rattle.stored_rings.proofs.Lying.{read_told}
-use Rattle.stored_rings.proofs.Lists.{still_in, set_behind, on_after}
-use Rattle.stored_rings.specs.Shelf.{seen}
-use Rattle.stored_rings.proofs.Shelves.{found_in}
+use Rattle.bucket_store.proofs.Lying.{read_told}
+use Rattle.bucket_store.proofs.Lists.{still_in, set_behind, on_after}
+use Rattle.bucket_store.specs.BucketStore.{seen}
+use Rattle.bucket_store.proofs.BucketStores.{found_in}
 use Rattle.brigade_ops.proofs.store.Brigades.read_front.Goals as goal
 
 pub set_own-requires-clause-lies : goal.set_own-requires-clause-lies

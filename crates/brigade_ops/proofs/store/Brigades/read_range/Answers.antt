@@ -6,14 +6,14 @@ use Rattle.run_model.specs.Cutting.{read_of}
 use Rattle.bucket_ring.specs.Lists.{on, list_at, front, rest, with_payload}
 use Rattle.bucket_ring.specs.declared.names.RingRefusal.{RingRefusal}
 use Rattle.bucket_ring.specs.declared.names.RingRefusal.TheVariants as ring
-use Rattle.stored_rings.specs.Items.{Items, replaced, rest_item}
-use Rattle.stored_rings.specs.Refusals.{unread}
-use Rattle.stored_rings.specs.declared.refusal.ReadRefusal.{ReadRefusal}
-use Rattle.stored_rings.specs.declared.refusal.ReadRefusal.TheVariants as refusal
+use Rattle.bucket_store.specs.Items.{Items, replaced, rest_item}
+use Rattle.bucket_store.specs.Refusals.{unread}
+use Rattle.bucket_store.specs.declared.refusal.ReadRefusal.{ReadRefusal}
+use Rattle.bucket_store.specs.declared.refusal.ReadRefusal.TheVariants as refusal
 use Rattle.brigade_ops.specs.Store.{lists, next_name}
 use Rattle.bucket_ring.proofs.Changes.{on_as}
-use Rattle.stored_rings.proofs.Shown.{on_cong}
-use Rattle.stored_rings.proofs.Lying.{left_lies}
+use Rattle.bucket_store.proofs.Shown.{on_cong}
+use Rattle.bucket_store.proofs.Lying.{left_lies}
 use Rattle.brigade_ops.proofs.Added.{none_since}
 use Rattle.brigade_ops.proofs.Unread.{rest_same, left_wanted}
 use Rattle.brigade_ops.proofs.store.Brigades.read_range.Goals as goal

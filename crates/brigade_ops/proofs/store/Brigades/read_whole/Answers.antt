@@ -2,7 +2,7 @@ use Rattle.std.proofs.Common.{Option, ap, ◌∙◌}
 use Rattle.run_model.specs.declared.bucket.Bucket.{Bucket}
 use Rattle.bucket_ring.specs.Lists.{on, with_payload}
 use Rattle.brigade_ops.specs.Store.{lists}
-use Rattle.stored_rings.proofs.Lying.{read_told}
+use Rattle.bucket_store.proofs.Lying.{read_told}
 use Rattle.brigade_ops.proofs.store.Brigades.read_whole.Goals as goal
 
 pub returns-clause-ok : goal.returns-clause-ok

@@ -2,8 +2,8 @@
 use Rattle.std.proofs.Common.{◌≡◌, ℕ, Option, refl, sym, subst}
 use Rattle.std.specs.Prelude.{OnOk}
 use Rattle.pool_tree.proofs.Trees.{tree_formed}
-use Rattle.stored_rings.specs.Items.{count_for}
-use Rattle.stored_rings.specs.Shelf.{seen}
+use Rattle.bucket_store.specs.Items.{count_for}
+use Rattle.bucket_store.specs.BucketStore.{seen}
 use Rattle.brigade_ops.specs.Store.{lists, brigade_of, bucket_at, pool_of, next_name, references}
 use Rattle.brigade_ops.proofs.store.Brigades.refer_for.Goals as goal
 

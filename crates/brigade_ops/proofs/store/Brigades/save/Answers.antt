@@ -9,18 +9,18 @@ use Rattle.run_model.specs.Steps.{new_ref}
 use Rattle.pool_tree.specs.Tree.{map_of}
 use Rattle.bucket_ring.specs.Lists.{on, list_at, found, times}
 use Rattle.brigade_ops.specs.Files.{times_in}
-use Rattle.stored_rings.specs.Items.{Item, Items, named, before_place, from_place, aside_item, aside_behind}
+use Rattle.bucket_store.specs.Items.{Item, Items, named, before_place, from_place, aside_item, aside_behind}
 use Rattle.brigade_ops.specs.Files.{count_at}
 use Rattle.brigade_ops.specs.Store.{lists, brigade_of, pool_of, next_name, references}
 use Rattle.pool_tree.proofs.Trees.{tree_formed}
 use Rattle.brigade_ops.specs.House.{AreHoused}
 use Rattle.brigade_ops.proofs.Housed.{house_referred, on_some}
-use Rattle.stored_rings.proofs.Lists.{list_off, on_after}
-use Rattle.stored_rings.proofs.Walks.{if_some, told_some}
+use Rattle.bucket_store.proofs.Lists.{list_off, on_after}
+use Rattle.bucket_store.proofs.Walks.{if_some, told_some}
 use Rattle.brigade_ops.proofs.Referred.{aside_same}
-use Rattle.stored_rings.proofs.Saves.{none_other, found_append, joined, moved_aside}
-use Rattle.stored_rings.specs.Shelf.{seen}
-use Rattle.stored_rings.proofs.Shelves.{counted, found_in, in_found}
+use Rattle.bucket_store.proofs.Saves.{none_other, found_append, joined, moved_aside}
+use Rattle.bucket_store.specs.BucketStore.{seen}
+use Rattle.bucket_store.proofs.BucketStores.{counted, found_in, in_found}
 use Rattle.brigade_ops.proofs.store.Brigades.save.Goals as goal
 
 pub put_all_aside-requires-clause-inside : goal.put_all_aside-requires-clause-inside

@@ -2,9 +2,9 @@ use Rattle.std.proofs.Common.{ℕ, Option, ap, ◌∙◌}
 use Rattle.std.proofs.Math.Path.{fun_ext}
 use Rattle.std.specs.Option.{option_and_then}
 use Rattle.bucket_ring.specs.Lists.{list_at, found}
-use Rattle.stored_rings.specs.Items.{Items}
+use Rattle.bucket_store.specs.Items.{Items}
 use Rattle.brigade_ops.specs.Store.{bucket_at}
-use Rattle.stored_rings.specs.Shelf.{seen}
+use Rattle.bucket_store.specs.BucketStore.{seen}
 use Rattle.brigade_ops.proofs.store.Brigades.set_next.Goals as goal
 
 pub returns-clause-buckets : goal.returns-clause-buckets

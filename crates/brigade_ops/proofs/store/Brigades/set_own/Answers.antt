@@ -2,8 +2,8 @@ use Rattle.std.proofs.Common.{ap, ◌∙◌}
 use Rattle.bucket_ring.specs.Lists.{on, with_payload}
 use Rattle.bucket_kinds.specs.declared.stored.Stored.{Stored}
 use Rattle.bucket_kinds.specs.Stored.{shown}
-use Rattle.stored_rings.specs.Regions.{look}
-use Rattle.stored_rings.specs.Shelf.{seen}
+use Rattle.bucket_store.specs.Regions.{look}
+use Rattle.bucket_store.specs.BucketStore.{seen}
 use Rattle.brigade_ops.specs.Store.{lists, brigade_of}
 use Rattle.brigade_ops.proofs.store.Brigades.set_own.Goals as goal
 

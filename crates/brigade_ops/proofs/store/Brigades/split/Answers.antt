@@ -4,20 +4,20 @@ use Rattle.bucket_ring.specs.declared.names.RingRefusal.{RingRefusal}
 use Rattle.bucket_ring.specs.declared.names.RingRefusal.TheVariants as ring
 use Rattle.bucket_kinds.specs.declared.refusal.SplitError.{SplitError}
 use Rattle.bucket_kinds.specs.declared.refusal.SplitError.TheVariants as halving
-use Rattle.stored_rings.specs.declared.refusal.SplitRefusal.{SplitRefusal}
-use Rattle.stored_rings.specs.declared.refusal.SplitRefusal.TheVariants as split
-use Rattle.stored_rings.specs.Refusals.{unsplit, unnamed}
+use Rattle.bucket_store.specs.declared.refusal.SplitRefusal.{SplitRefusal}
+use Rattle.bucket_store.specs.declared.refusal.SplitRefusal.TheVariants as split
+use Rattle.bucket_store.specs.Refusals.{unsplit, unnamed}
 use Rattle.run_model.specs.declared.bucket.Bucket.{Bucket}
 use Rattle.run_model.specs.Cutting.{split_at}
 use Rattle.bucket_ring.specs.Lists.{on, list_at, front, rest, put_after, with_payload}
 use Rattle.bucket_kinds.specs.Stored.{is_whole, shown}
-use Rattle.stored_rings.specs.declared.regions.Regions.{Regions}
-use Rattle.stored_rings.specs.Items.{Item, Items}
-use Rattle.stored_rings.specs.Regions.{look}
-use Rattle.stored_rings.specs.Shelf.{seen}
+use Rattle.bucket_store.specs.declared.regions.Regions.{Regions}
+use Rattle.bucket_store.specs.Items.{Item, Items}
+use Rattle.bucket_store.specs.Regions.{look}
+use Rattle.bucket_store.specs.BucketStore.{seen}
 use Rattle.brigade_ops.specs.Store.{lists, brigade_of, references}
-use Rattle.stored_rings.proofs.Lists.{still_in, set_behind, on_after}
-use Rattle.stored_rings.proofs.Shelves.{found_in}
+use Rattle.bucket_store.proofs.Lists.{still_in, set_behind, on_after}
+use Rattle.bucket_store.proofs.BucketStores.{found_in}
 use Rattle.brigade_ops.proofs.Added.{added}
 use Rattle.brigade_ops.proofs.store.Brigades.split.Goals as goal
 

@@ -3,12 +3,12 @@ use Rattle.bucket_ring.specs.declared.names.BucketId.{BucketId}
 use Rattle.bucket_ring.specs.Lists.{on, list_at, front, rest, times, payload_of}
 use Rattle.bucket_ring.specs.Kept.{once_in}
 use Rattle.bucket_ring.specs.Laws.{once_elsewhere}
-use Rattle.stored_rings.specs.Items.{Items, before_place, from_place}
+use Rattle.bucket_store.specs.Items.{Items, before_place, from_place}
 use Rattle.brigade_ops.specs.Store.{lists, brigade_of}
-use Rattle.stored_rings.proofs.Lists.{none_place, list_on, list_off, there_off, on_after, rest_append, rest_again}
-use Rattle.stored_rings.proofs.Walks.{told_some}
-use Rattle.stored_rings.specs.Shelf.{seen}
-use Rattle.stored_rings.proofs.Shelves.{counted, found_in, in_found}
+use Rattle.bucket_store.proofs.Lists.{none_place, list_on, list_off, there_off, on_after, rest_append, rest_again}
+use Rattle.bucket_store.proofs.Walks.{told_some}
+use Rattle.bucket_store.specs.BucketStore.{seen}
+use Rattle.bucket_store.proofs.BucketStores.{counted, found_in, in_found}
 use Rattle.brigade_ops.proofs.store.Brigades.split_at.Goals as goal
 use Rattle.brigade_ops.proofs.store.Brigades.split_at.Goals.{After-splice_from}
 

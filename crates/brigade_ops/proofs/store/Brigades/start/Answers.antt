@@ -3,9 +3,9 @@ use Rattle.bucket_ring.specs.Lists.{list_at}
 use Rattle.bucket_ring.specs.Laws.{first_found}
 use Rattle.bucket_ring.proofs.Short.{short}
 use Rattle.brigade_ops.specs.Store.{lists, brigade_of}
-use Rattle.stored_rings.proofs.Walks.{start_whole, if_some}
-use Rattle.stored_rings.specs.Shelf.{seen}
-use Rattle.stored_rings.proofs.Shelves.{in_found, kept, limit}
+use Rattle.bucket_store.proofs.Walks.{start_whole, if_some}
+use Rattle.bucket_store.specs.BucketStore.{seen}
+use Rattle.bucket_store.proofs.BucketStores.{in_found, kept, limit}
 use Rattle.brigade_ops.proofs.store.Brigades.start.Goals as goal
 
 pub returns-clause-whole : goal.returns-clause-whole

@@ -1,10 +1,10 @@
 -- The visitor stops at the bucket at which the walk stands, or sees those behind it.
 use Rattle.std.proofs.Common.{◌≡◌, Some, refl, sym, ap, ◌∙◌, subst, inl, inr}
 use Rattle.bucket_ring.specs.Lists.{list_at}
-use Rattle.stored_rings.specs.Items.{Items, from_place}
-use Rattle.stored_rings.specs.Views.{bucket_of}
-use Rattle.stored_rings.proofs.Lists.{rest_head}
-use Rattle.stored_rings.proofs.Walks.{told_some}
+use Rattle.bucket_store.specs.Items.{Items, from_place}
+use Rattle.bucket_store.specs.Views.{bucket_of}
+use Rattle.bucket_store.proofs.Lists.{rest_head}
+use Rattle.bucket_store.proofs.Walks.{told_some}
 use Rattle.brigade_ops.specs.Store.{lists, brigade_of}
 use Rattle.brigade_ops.specs.Visits.{AreVisited}
 use Rattle.brigade_ops.proofs.Stores.{bucket_found}

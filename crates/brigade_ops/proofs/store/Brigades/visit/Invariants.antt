@@ -2,7 +2,7 @@
 use Rattle.std.proofs.Common.{◌≡◌, Option, Some, length}
 use Rattle.bucket_ring.specs.declared.names.BucketId.{BucketId}
 use Rattle.bucket_ring.specs.Lists.{list_at}
-use Rattle.stored_rings.specs.Items.{from_place}
+use Rattle.bucket_store.specs.Items.{from_place}
 use Rattle.brigade_ops.specs.Store.{lists, brigade_of}
 use Rattle.brigade_ops.specs.Visits.{AreVisited}
 use Rattle.brigade_ops.proofs.store.Brigades.visit.Given as goal

@@ -12,7 +12,7 @@ use Rattle.filter_chain.proofs.HostCloses.{close_serves, closed_on, taken_is}
 use Rattle.filter_chain.proofs.HostEvents.{none_found, served, stands}
 use Rattle.filter_chain.proofs.KnownEvents.{closed_spares}
 use Rattle.filter_chain.proofs.Lent.{IsLent, lent_by, nothing_at}
-use Rattle.ring_run.specs.declared.labels_run.LabelsRun.{LabelsRun}
+use Rattle.interp_exec.specs.declared.labels_run.LabelsRun.{LabelsRun}
 use Rattle.filter_chain.proofs.host.Host.close.Goals as goal
 
 pub close-requires : goal.close-requires

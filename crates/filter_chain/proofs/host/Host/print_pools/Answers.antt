@@ -1,6 +1,6 @@
 -- By the tree, which is the world's.
-use Rattle.std.proofs.Common.{OnOk, ◌∙◌, ap, subst}
-use Rattle.std.specs.Io.KnownBytes.{Appends}
+use Rattle.std.proofs.Common.{◌∙◌, ap, subst}
+use Rattle.byte_text.specs.Writes.{WroteAll, writer_state}
 use Rattle.run_model.specs.declared.payload.Payload.{Payload}
 use Rattle.run_model.specs.Pools.{Pools}
 use Rattle.model_laws.proofs.chains.TreeParts.{reached_tree}
@@ -13,5 +13,5 @@ unfolding IsHosting
 returns g c w hosts =
     let host = c.args.self.now in
     let root = (reached_tree (budget_of host) (chain_of host) w hosts.chained hosts.reached).root in
-    subst (λ (ps : Pools Payload). OnOk c.print.result (Appends (g.W.Write.contents c.args.out.now) (g.W.Write.contents c.print.new.out) (printed payload_text ps 0 w.common.root))) hosts.pools
+    subst (λ (ps : Pools Payload). WroteAll c.print.result (writer_state g.W.Write.contents c.args.out.now) (writer_state g.W.Write.contents c.print.new.out) (printed payload_text ps 0 w.common.root)) hosts.pools
     (c.print.ensures w.common.root (ap (λ (ps : Pools Payload). ps.path w.common.root) hosts.pools ∙ root))

@@ -1,6 +1,6 @@
 use Rattle.std.proofs.Common.{ap, refl, subst, ◌∙◌}
 use Rattle.std.proofs.lemmas.Result.{err_from_is_err_and}
-use Rattle.http_message.specs.Inboxes.{unread}
+use Rattle.http_message.specs.ReadBuffers.{unread}
 use Rattle.http_front.specs.Texts.{text_of}
 use Rattle.http_front.specs.UnderWays.{most_steps}
 use Rattle.http_front.specs.declared.under_way.StepSlice.TheVariants as slice
@@ -21,7 +21,7 @@ returns-in-Works-clause-did g c = (
   slice.Works c.in-Works.under_way,
   stepped_ok _ _ _ _ _ _ c.step_on-did.result _ _ _ _ _ _ _ _ _ _ _ c.in_ok-slice.ensures.ok.0 c.in-Works.is c.take-hand.ensures.value c.unread-seen.ensures
       (ap text_of c.in_ok-slice.ensures.ok.1) c.step_on-did.ensures.ok,
-  (record { still = refl; wants = refl; over = c.requires.going; counted = refl }, refl),
+  (record { still = refl; needs_input = refl; over = c.requires.going; counted = refl }, refl),
 )
 
 pub returns-in_err-slice : goal.returns-in_err-slice
@@ -39,7 +39,7 @@ returns-in_err-slice g c =
       sent = refl;
       lacks =
           lack_as c.args.site.now (λ old. g.H.Handler.lacks old c.args.number) (λ old. g.P.Pace.lacks_rest old c.args.number) c.args.handler.now c.step_on-did.new.handler
-          c.take-hand.result c.args.self.now.hand c.unread-seen.result.now (unread c.args.self.now.inbox) c.args.self.now.whole e c.take-hand.ensures.value c.unread-seen.ensures
+          c.take-hand.result c.args.self.now.hand c.unread-seen.result.now (unread c.args.self.now.read_buffer) c.args.self.now.whole e c.take-hand.ensures.value c.unread-seen.ensures
           (sized_lack c.args.site.now (λ old. g.H.Handler.lacks old c.args.number) (λ old. g.P.Pace.lacks_rest old c.args.number) c.args.handler.now
           c.step_on-did.new.handler c.unread-seen.result.now c.args.self.now.whole (λ old. g.P.Pace.comes old c.args.number)
           (λ old. g.P.Pace.rests old c.args.number) g.K.Clock.tells c.args.clock.now c.step_on-did.new.clock

@@ -1,7 +1,7 @@
 use Rattle.std.proofs.Common.{[], take, Ok, refl, ◌∙◌, sym, subst}
 use Rattle.std.proofs.lemmas.Result.{IfErr-weaker}
 use Rattle.std.proofs.KnownBytes.{Appends-nil, Consumes-nil}
-use Rattle.http_message.specs.Inboxes.{unread}
+use Rattle.http_message.specs.ReadBuffers.{unread}
 use Rattle.http_front.specs.UnderWays.{most_steps}
 use Rattle.http_front.specs.Talking.{pending}
 use Rattle.http_front.specs.declared.http_conn.Next.TheVariants as next
@@ -20,7 +20,7 @@ returns-in-Writes-clause-own g c =
       own_wrote c.args.site.now (λ old. g.H.Handler.among old c.args.number) (λ old. g.H.Handler.rests old c.args.number) g.K.Clock.tells
           (λ old new. g.H.Handler.apart old c.args.number new) (λ h. g.met.H.Handler.apart_self h c.args.number)
           (λ mid now new method file o. g.met.H.Handler.among_later mid now new c.args.number method file o) c.put_out.result c.args.self.now c.put_out.new.self
-          c.args.handler.now c.put_out.new.handler c.args.clock.now w.0 c.put_out.ensures.still w.2 c.put_out.ensures.inbox c.put_out.ensures.over c.put_out.ensures.hand,
+          c.args.handler.now c.put_out.new.handler c.args.clock.now w.0 c.put_out.ensures.still w.2 c.put_out.ensures.read_buffer c.put_out.ensures.over c.put_out.ensures.hand,
     )
 
 pub returns-in-Over-clause-own : goal.returns-in-Over-clause-own
@@ -96,13 +96,13 @@ pub returns-in_default-clause-source : goal.returns-in_default-clause-source
 returns-in_default-clause-source g c =
     source_lack _ _ refl _ c.step.result (IfErr-weaker c.step.result _ _
     (λ e how. slice_lack c.args.site.now (λ old. g.H.Handler.lacks old c.args.number) (λ old. g.H.Handler.lacks_rest old c.args.number) c.args.handler.now
-    c.step.new.handler (unread c.args.self.now.inbox) c.args.self.now.whole c.args.self.now.hand e how) c.step.ensures.lacks)
+    c.step.new.handler (unread c.args.self.now.read_buffer) c.args.self.now.whole c.args.self.now.hand e how) c.step.ensures.lacks)
 
 pub returns-in_default-clause-sink : goal.returns-in_default-clause-sink
 returns-in_default-clause-sink g c =
     sink_lack _ _ refl c.step.result (IfErr-weaker c.step.result _ _
     (λ e how. slice_lack c.args.site.now (λ old. g.H.Handler.lacks old c.args.number) (λ old. g.H.Handler.lacks_rest old c.args.number) c.args.handler.now
-    c.step.new.handler (unread c.args.self.now.inbox) c.args.self.now.whole c.args.self.now.hand e how) c.step.ensures.lacks)
+    c.step.new.handler (unread c.args.self.now.read_buffer) c.args.self.now.whole c.args.self.now.hand e how) c.step.ensures.lacks)
 
 pub returns-in-Writes-clause-few : goal.returns-in-Writes-clause-few
 returns-in-Writes-clause-few g c =
@@ -115,20 +115,20 @@ returns-in-Over-clause-few g c = g.met.H.Handler.steps_none c.args.handler.now c
 pub returns-in-Reads-clause-few : goal.returns-in-Reads-clause-few
 returns-in-Reads-clause-few g c = g.met.H.Handler.steps_none c.args.handler.now c.args.number _
 
-pub returns-in-Writes-clause-wants : goal.returns-in-Writes-clause-wants
-returns-in-Writes-clause-wants g c = wants_kept c.put_out.result c.args.self.now c.put_out.new.self (λ is. sym c.put_out.ensures.wants ∙ is)
+pub returns-in-Writes-clause-needs_input : goal.returns-in-Writes-clause-needs_input
+returns-in-Writes-clause-needs_input g c = wants_kept c.put_out.result c.args.self.now c.put_out.new.self (λ is. sym c.put_out.ensures.needs_input ∙ is)
 
 pub returns-in-Writes-clause-counted : goal.returns-in-Writes-clause-counted
 returns-in-Writes-clause-counted g c = count_kept c.put_out.result c.args.self.now c.put_out.new.self c.put_out.ensures.requests
 
-pub returns-in-Reads-clause-wants : goal.returns-in-Reads-clause-wants
-returns-in-Reads-clause-wants g c = wants_kept c.take_in.result c.args.self.now c.take_in.new.self (c.take_in.ensures.wants)
+pub returns-in-Reads-clause-needs_input : goal.returns-in-Reads-clause-needs_input
+returns-in-Reads-clause-needs_input g c = wants_kept c.take_in.result c.args.self.now c.take_in.new.self (c.take_in.ensures.needs_input)
 
 pub returns-in-Reads-clause-counted : goal.returns-in-Reads-clause-counted
 returns-in-Reads-clause-counted g c = count_kept c.take_in.result c.args.self.now c.take_in.new.self c.take_in.ensures.requests
 
-pub returns-in_default-clause-wants : goal.returns-in_default-clause-wants
-returns-in_default-clause-wants g c =
+pub returns-in_default-clause-needs_input : goal.returns-in_default-clause-needs_input
+returns-in_default-clause-needs_input g c =
     wants_made c.args.self.now c.step.new.self c.args.site.now (λ old. g.H.Handler.among old c.args.number)
     (λ old. g.H.Handler.rests old c.args.number) g.K.Clock.tells c.args.handler.now c.step.new.handler c.args.clock.now c.step.new.clock c.args.self.now.whole
     (pending c.step.new.self) c.step.result c.step.ensures.did

@@ -9,7 +9,7 @@ use Rattle.pool_tree.specs.Tree.{map_of}
 use Rattle.pool_tree.proofs.Trees.{tree_formed}
 use Rattle.module_run.specs.Conns.{labels_handed}
 use Rattle.module_run.proofs.Unreferred.{same_device, unreferred_stays}
-use Rattle.ring_run.specs.declared.labels_run.LabelsRun.{LabelsRun}
+use Rattle.interp_exec.specs.declared.labels_run.LabelsRun.{LabelsRun}
 use Rattle.module_run.proofs.conn.Conn.destroy.Goals as goal
 
 pub returns-clause-labels : goal.returns-clause-labels

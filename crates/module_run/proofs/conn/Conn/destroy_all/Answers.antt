@@ -14,7 +14,7 @@ use Rattle.pool_tree.proofs.Trees.{tree_formed}
 use Rattle.brigade_ops.specs.House.{AreOpen}
 use Rattle.brigade_ops.specs.Store.{lists, next_name}
 use Rattle.brigade_ops.proofs.Stores.{same_brigade}
-use Rattle.ring_calls.proofs.Changes.{ring_here, ring_off}
+use Rattle.interp_state.proofs.Changes.{ring_here, ring_off}
 use Rattle.module_run.specs.declared.conn.Conn.{Conn}
 use Rattle.module_run.specs.declared.conn.Filter.{Filter}
 use Rattle.module_run.specs.Conns.{filter_at, labels_handed, top_of}
@@ -28,7 +28,7 @@ use Rattle.module_run.proofs.RequestBegins.{conn_live}
 use Rattle.module_run.proofs.RequestEnds.{closed_labels}
 use Rattle.module_run.proofs.Unchanged.{left_same}
 use Rattle.module_run.proofs.Unreferred.{same_device, unreferred_stays}
-use Rattle.ring_run.specs.declared.labels_run.LabelsRun.{LabelsRun}
+use Rattle.interp_exec.specs.declared.labels_run.LabelsRun.{LabelsRun}
 use Rattle.module_run.proofs.conn.Conn.destroy_all.Goals as goal
 
 first_within : (chain : List Program) (c : Conn) (many : ℕ) → AreCalled chain c → top_of c < many → length c.filters.items ≡ many → c.first < length c.filters.items

@@ -4,7 +4,7 @@ use Rattle.std.proofs.lemmas.Bool.{cases_eq}
 use Rattle.std.proofs.lemmas.Option.{slice_get_read, slice_get_within}
 use Rattle.brigade_ops.specs.Store.{lists}
 use Rattle.bucket_ring.specs.Lists as ring
-use Rattle.ring_calls.proofs.Changes.{ring_here, ring_off}
+use Rattle.interp_state.proofs.Changes.{ring_here, ring_off}
 use Rattle.module_run.specs.declared.conn.Filter.{Filter}
 use Rattle.module_run.specs.Conns.{filter_at}
 use Rattle.module_run.proofs.Leaving.{house_ended, none_kept}

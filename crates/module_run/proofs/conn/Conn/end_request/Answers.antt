@@ -5,7 +5,7 @@ use Rattle.run_model.specs.declared.event.Refusal.TheVariants as refusal
 use Rattle.run_model.specs.Turns.{ended, ends, request_over, unless_refused}
 use Rattle.pool_tree.specs.Tree.{map_of}
 use Rattle.brigade_ops.specs.Store.{lists, next_name}
-use Rattle.ring_run.specs.CarriedOut.{ClosedWith}
+use Rattle.interp_exec.specs.CarriedOut.{ClosedWith}
 use Rattle.module_run.specs.declared.conn.Conn.{Conn}
 use Rattle.module_run.specs.Destroyed.{quieted, request_left}
 use Rattle.module_run.specs.Happened.{has_lasted}

@@ -15,15 +15,15 @@ use Rattle.brigade_ops.specs.Store.{lists, next_name}
 use Rattle.module_run.specs.declared.conn.Conn.{Conn}
 use Rattle.module_run.specs.declared.conn.Filter.{Filter}
 use Rattle.module_run.specs.Passing.{CanPass}
-use Rattle.ring_calls.specs.declared.machine.Call.{Call}
-use Rattle.ring_calls.specs.declared.machine.Instance.{Instance}
-use Rattle.ring_calls.specs.declared.machine.Slot.TheVariants as slot
-use Rattle.stored_rings.specs.Items.{Items}
+use Rattle.interp_state.specs.declared.machine.Call.{Call}
+use Rattle.interp_state.specs.declared.machine.Instance.{Instance}
+use Rattle.interp_state.specs.declared.machine.Slot.TheVariants as slot
+use Rattle.bucket_store.specs.Items.{Items}
 use Rattle.module_run.specs.Conns.{filter_at, place_in, shown_call, top_of}
-use Rattle.ring_passes.specs.Handed.{lent}
-use Rattle.ring_calls.specs.Held.{IsHeld}
-use Rattle.ring_calls.specs.Seen.{seen, calls_in, is_running, shown_slot}
-use Rattle.ring_calls.specs.Slots.{live_in, marked, name_in, slot_at}
+use Rattle.interp_calls.specs.Handed.{lent}
+use Rattle.interp_state.specs.Held.{IsHeld}
+use Rattle.interp_state.specs.Seen.{seen, calls_in, is_running, shown_slot}
+use Rattle.interp_state.specs.Slots.{live_in, marked, name_in, slot_at}
 use Rattle.module_run.specs.Stacked.{named_at}
 use Rattle.module_run.proofs.CanPass.{passer, passed_live, passed_variable, next_behind, next_left, next_free, next_there, next_idle, next_alone, next_lacks}
 use Rattle.module_run.proofs.HandsOn.{HandsOn}

@@ -16,24 +16,24 @@ use Rattle.run_model.specs.Effects.{do_pass}
 use Rattle.run_model.specs.Faults.{WHomes, wants}
 use Rattle.run_model.specs.State.{Configuration, Out, items_of}
 use Rattle.run_model.specs.Steps.{grows, has_bytes}
-use Rattle.ring_calls.proofs.Quiet.{grown_none}
+use Rattle.interp_state.proofs.Quiet.{grown_none}
 use Rattle.pool_tree.specs.declared.tree.PoolTree.{PoolTree}
 use Rattle.pool_tree.specs.Tree.{map_of}
 use Rattle.brigade_ops.specs.declared.store.Brigades.{Brigades}
 use Rattle.brigade_ops.specs.Store.{lists, pool_of, next_name, brigade_of}
 use Rattle.module_run.specs.declared.conn.Conn.{Conn}
 use Rattle.module_run.specs.declared.conn.Filter.{Filter}
-use Rattle.ring_calls.specs.declared.machine.Instance.{Instance}
-use Rattle.ring_calls.specs.declared.machine.Call.{Call}
+use Rattle.interp_state.specs.declared.machine.Instance.{Instance}
+use Rattle.interp_state.specs.declared.machine.Call.{Call}
 use Rattle.module_run.specs.Conns.{filter_at, top_of}
-use Rattle.ring_passes.specs.Delivery.{WasDelivered, out_of}
-use Rattle.ring_calls.specs.Ends.{EndInFiles}
-use Rattle.ring_calls.specs.Given.{RangeIsOpen}
-use Rattle.ring_calls.specs.Held.{IsHeld}
-use Rattle.ring_calls.specs.LeftAlone.{LeavesForeign}
+use Rattle.interp_calls.specs.Delivery.{WasDelivered, out_of}
+use Rattle.interp_state.specs.Ends.{EndInFiles}
+use Rattle.interp_state.specs.Given.{RangeIsOpen}
+use Rattle.interp_state.specs.Held.{IsHeld}
+use Rattle.interp_state.specs.LeftAlone.{LeavesForeign}
 use Rattle.module_run.specs.Proceeding.{CanProceed, LeftAs}
-use Rattle.ring_calls.specs.Seen.{seen, seen_over}
-use Rattle.ring_calls.specs.Slots.{live_in, marked, slot_at}
+use Rattle.interp_state.specs.Seen.{seen, seen_over}
+use Rattle.interp_state.specs.Slots.{live_in, marked, slot_at}
 use Rattle.module_run.specs.Stacked.{named_at}
 use Rattle.module_run.proofs.AtWork as work
 use Rattle.module_run.proofs.CallsLeave.{ends_one, ends_unchanged, marked_name, one_leaves}
@@ -41,9 +41,9 @@ use Rattle.module_run.proofs.Neighbours.{unchanged}
 use Rattle.module_run.proofs.CanPass.{passer, passed_live, passed_variable}
 use Rattle.module_run.proofs.Delivers.{delivers, passed_on}
 use Rattle.module_run.proofs.FileOpens.{left_device}
-use Rattle.ring_calls.proofs.Faultless.{met_at}
+use Rattle.interp_state.proofs.Faultless.{met_at}
 use Rattle.module_run.proofs.HandsOnBuilt.{on_err, reads_here, same_back, writes_here, writes_off}
-use Rattle.ring_calls.proofs.OpenFiles.{open_items}
+use Rattle.interp_state.proofs.OpenFiles.{open_items}
 use Rattle.module_run.proofs.Outs.{with_out}
 use Rattle.module_run.proofs.Spared.{changed, left_spared}
 use Rattle.module_run.proofs.Tops.{OnTop, view_of}

@@ -1,7 +1,7 @@
 -- All filters before k have left, so a brigade goes from k on where it goes from the first place on.
 use Rattle.std.proofs.Common.{◌≡◌, ℕ}
 use Rattle.std.specs.Prelude.{Option}
-use Rattle.stored_rings.specs.Items.{Items}
+use Rattle.bucket_store.specs.Items.{Items}
 use Rattle.module_run.specs.Conns.{place_in}
 use Rattle.module_run.proofs.conn.Conn.place_from.Given as goal
 

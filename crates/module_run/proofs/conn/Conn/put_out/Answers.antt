@@ -12,11 +12,11 @@ use Rattle.run_model.specs.Steps.{has_bytes}
 use Rattle.run_model.specs.Turns.{calls_of}
 use Rattle.pool_tree.specs.Tree.{map_of}
 use Rattle.brigade_ops.specs.Store.{lists}
-use Rattle.ring_calls.specs.Ends.{EndInFiles}
-use Rattle.ring_calls.specs.Given.{RangeIsOpen}
-use Rattle.ring_calls.specs.Seen.{seen}
-use Rattle.ring_calls.specs.Slots.{name_in, slot_at}
-use Rattle.ring_passes.specs.Delivery.{WasDelivered, out_of}
+use Rattle.interp_state.specs.Ends.{EndInFiles}
+use Rattle.interp_state.specs.Given.{RangeIsOpen}
+use Rattle.interp_state.specs.Seen.{seen}
+use Rattle.interp_state.specs.Slots.{name_in, slot_at}
+use Rattle.interp_calls.specs.Delivery.{WasDelivered, out_of}
 use Rattle.module_run.specs.declared.conn.Filter.{Filter}
 use Rattle.module_run.specs.Conns.{filter_at}
 use Rattle.module_run.specs.Proceeding.{LeftAs, RefinesStep}

@@ -11,7 +11,7 @@ use Rattle.run_model.specs.Chains.{is_last, module_at}
 use Rattle.run_model.specs.Passing.{handler_at}
 use Rattle.pool_tree.specs.declared.tree.PoolTree.{PoolTree}
 use Rattle.brigade_ops.specs.Store.{lists, brigade_of, pool_of, next_name}
-use Rattle.ring_passes.specs.Begun.{IsBegun}
+use Rattle.interp_calls.specs.Begun.{IsBegun}
 use Rattle.module_run.specs.declared.conn.Conn.{Conn}
 use Rattle.module_run.specs.declared.conn.Filter.{Filter}
 use Rattle.module_run.specs.Conns.{filter_at, modules_of}

@@ -6,7 +6,7 @@ use Rattle.run_model.specs.Pools.{is_in}
 use Rattle.module_run.specs.declared.conn.Filter.{Filter}
 use Rattle.module_run.specs.Conns.{filter_at}
 use Rattle.module_run.specs.Stacked.{named_at}
-use Rattle.ring_calls.proofs.Pushed.{item_is}
+use Rattle.interp_state.proofs.Pushed.{item_is}
 use Rattle.module_run.proofs.conn.Conn.rings.Goals as goal
 
 pub loop-filter-init : goal.loop-filter-init

@@ -1,8 +1,8 @@
 -- By the slot of what was brought.
 use Rattle.std.proofs.Common.{◌≡◌, ◌∙◌, ℕ, Some, None, is_some, sym, ap, arith}
 use Rattle.brigade_ops.specs.Store.{lists, brigade_of, pool_of, next_name}
-use Rattle.ring_calls.specs.Slots.{name_in, slot_at}
-use Rattle.ring_calls.proofs.Changes.{ring_here, ring_off}
+use Rattle.interp_state.specs.Slots.{name_in, slot_at}
+use Rattle.interp_state.proofs.Changes.{ring_here, ring_off}
 use Rattle.module_run.proofs.EndsFirst.{held_off, named_first}
 use Rattle.module_run.proofs.HeldStays.{held_stays}
 use Rattle.module_run.proofs.conn.Filter.end_first.Goals as goal

@@ -4,6 +4,8 @@ use Rattle.std.specs.List.{flat_map}
 use Rattle.std.proofs.lemmas.List.{append-nil, append_assoc, length-append}
 use Rattle.run_model.specs.Pools.{is_live}
 use Rattle.run_model.specs.RunOrder.{children}
+use Rattle.byte_text.specs.Writes.{writer_state}
+use Rattle.byte_text.proofs.WritingLaws.{appends_then, appends_none, appends_same}
 use Rattle.pool_tree.specs.declared.tree.PoolTree.{PoolTree}
 use Rattle.pool_tree.specs.Left.{IsPlace, text_behind, text_left}
 use Rattle.pool_tree.specs.Printed.{line, printed}
@@ -11,7 +13,6 @@ use Rattle.pool_tree.specs.Tree.{map_of}
 use Rattle.pool_tree.proofs.Left.{behind_top, if_some, line_some, none_of, place_top}
 use Rattle.pool_tree.proofs.Printing.{printed_step}
 use Rattle.pool_tree.proofs.Trees.{tree_formed}
-use Rattle.pool_tree.proofs.Writing.{appends_then, appends_none, appends_same}
 use Rattle.pool_tree.proofs.tree.PoolTree.put_pool.Goals as goal
 
 -- what is left where a walk comes to a pool is the line of it, and what is left behind that line
@@ -37,7 +38,7 @@ loop-place-init g c =
     let depth = c.args.depth in
     let text = printed g.T.PoolText.shown (map_of tree) in
     record {
-      front = ([], (appends_none (g.W.Write.contents c.args.out.now), ap (λ (xs : List ℕ). text depth pool ++ xs) (behind_top tree text pool depth c.requires.live) ∙ append-nil (text depth pool)));
+      front = ([], (appends_none (writer_state g.W.Write.contents c.args.out.now), ap (λ (xs : List ℕ). text depth pool ++ xs) (behind_top tree text pool depth c.requires.live) ∙ append-nil (text depth pool)));
       place = λ p is. (let e : (pool, depth) ≡ p = cc in subst (λ (q : ℕ × ℕ). IsPlace tree pool depth q.0 q.1) e (place_top tree pool depth c.requires.live c.requires.small));
     }
 
@@ -71,7 +72,7 @@ loop-place-preserved g c =
       front = (
         written ++ first,
         (
-          appends_then (g.W.Write.contents c.args.out.now) (g.W.Write.contents c.loop-place.out) (g.W.Write.contents c.put_line.new.out) written first i.front.1.0 c.in_ok-put_line.ensures,
+          appends_then (writer_state g.W.Write.contents c.args.out.now) (writer_state g.W.Write.contents c.loop-place.out) (writer_state g.W.Write.contents c.put_line.new.out) written first i.front.1.0 c.in_ok-put_line.ensures,
           append_assoc written first (text_left text tree c.args.pool c.args.depth c.below-place.result) ∙ (ap (λ (xs : List ℕ). written ++ xs) (sym step) ∙ i.front.1.1),
         ),
       );
@@ -84,5 +85,5 @@ returns g c =
     let text = printed g.T.PoolText.shown (map_of tree) in
     let i = c.loop-place.invariant in
     let none = none_of c.loop-place.place c.in_default.not-Some in
-    appends_same (g.W.Write.contents c.args.out.now) (g.W.Write.contents c.loop-place.out) i.front.0 (text c.args.depth c.args.pool)
+    appends_same (writer_state g.W.Write.contents c.args.out.now) (writer_state g.W.Write.contents c.loop-place.out) i.front.0 (text c.args.depth c.args.pool)
     (sym (append-nil i.front.0) ∙ (ap (λ o. i.front.0 ++ text_left text tree c.args.pool c.args.depth o) (sym none) ∙ i.front.1.1)) i.front.1.0

@@ -1,7 +1,7 @@
 use Rattle.std.proofs.Common.{take}
-use Rattle.std.specs.Io.KnownBytes.{Appends}
+use Rattle.byte_text.specs.Writes.{AppendsText, writer_state}
 use Rattle.pool_tree.specs.Printed.{spaced_all}
 use Rattle.pool_tree.proofs.tree.print.put_payloads.Given as goal
 
 abbrev pub invariant-loop-payload : goal.invariant-loop-payload
-invariant-loop-payload g l = Appends (g.W.Write.contents l.initial.out) (g.W.Write.contents l.out) (spaced_all g.T.PoolText.shown (take l.payload-index l.payloads))
+invariant-loop-payload g l = AppendsText (writer_state g.W.Write.contents l.initial.out) (writer_state g.W.Write.contents l.out) (spaced_all g.T.PoolText.shown (take l.payload-index l.payloads))

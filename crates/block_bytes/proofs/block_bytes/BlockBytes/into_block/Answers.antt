@@ -1,6 +1,0 @@
--- The bytes begin where they did.
-use Rattle.std.proofs.Common.{rules}
-use Rattle.block_bytes.proofs.block_bytes.BlockBytes.into_block.Goals as goal
-
-pub returns : goal.returns
-returns c = search rules

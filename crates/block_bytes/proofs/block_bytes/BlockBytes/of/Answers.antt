@@ -1,6 +1,0 @@
--- The bytes are those of the block from that place on.
-use Rattle.std.proofs.Common.{rules}
-use Rattle.block_bytes.proofs.block_bytes.BlockBytes.of.Goals as goal
-
-pub returns : goal.returns
-returns c = search rules

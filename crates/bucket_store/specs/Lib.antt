@@ -1,0 +1,14 @@
+pub mod Items
+pub mod Points
+pub mod Refusals
+pub mod Laws
+pub mod Rows
+pub mod Morphs
+pub mod Noted
+pub mod Dependents
+pub mod Due
+pub mod Views
+pub mod Regions
+pub mod Shown
+pub mod BucketStore
+pub mod Prelude

@@ -1,5 +1,0 @@
-use Rattle.http_front.proofs.RequestLaws.{bare_finished}
-use Rattle.http_front.proofs.requests.finish_bare.Goals as goal
-
-pub returns-clause-leads : goal.returns-clause-leads
-returns-clause-leads g c = bare_finished g.F.Files.device c.args.number c.args.host.now c.end_request.new.host c.args.failure c.bare.result c.bare.ensures c.in_ok-end_request.ensures.leads

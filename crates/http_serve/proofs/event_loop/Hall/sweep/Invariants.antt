@@ -1,6 +1,0 @@
--- The host stands for some world.
-use Rattle.http_front.specs.Driven.{IsAlive}
-use Rattle.http_serve.proofs.event_loop.Hall.sweep.Given as goal
-
-abbrev pub invariant-loop : goal.invariant-loop
-invariant-loop g l = IsAlive g.F.Files.device l.host

@@ -1,0 +1,11 @@
+pub mod LocalRuns
+pub mod OnlyAsked
+pub mod FirstFault
+pub mod LiveContents
+pub mod LateVisits
+pub mod RoundSteps
+pub mod ByteWalks
+pub mod TraceSteps
+pub mod TraceWalks
+pub mod States
+pub mod StateWalks

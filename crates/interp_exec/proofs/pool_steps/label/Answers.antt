@@ -1,0 +1,15 @@
+-- A label is no brigade and no reference.
+use Rattle.std.proofs.Common.{sym, subst}
+use Rattle.run_model.specs.declared.payload.Payload.{Payload}
+use Rattle.run_model.specs.Pools.{Pools}
+use Rattle.pool_tree.specs.Tree.{map_of}
+use Rattle.pool_tree.proofs.Trees.{tree_formed}
+use Rattle.brigade_ops.specs.House.{AreHoused}
+use Rattle.brigade_ops.proofs.Housed.{house_labelled}
+use Rattle.interp_exec.proofs.pool_steps.label.Goals as goal
+
+pub returns-clause-house : goal.returns-clause-house
+returns-clause-house c =
+    λ rings pools references house.
+    subst (λ (ps : Pools Payload). AreHoused rings pools references ps) (sym c.in-Ok.ensures.ok)
+    (house_labelled rings pools references (map_of c.args.tree.now) house c.args.kind c.args.pool c.in_ok-label.label (tree_formed c.args.tree.now) c.requires.live)

@@ -1,7 +1,0 @@
-use Rattle.module_tools.specs.TextAnswers.{IsCertified}
-use Rattle.module_tools.proofs.AnswerLaws.{writes_front}
-use Rattle.module_tools.proofs.certifying.run_certify.Goals as goal
-
-pub returns-clause-write : goal.returns-clause-write
-returns-clause-write g c = λ h.
-    writes_front (IsCertified c.args.is_slim) _ _ _ _ _ _ _ _ _ c.in_ok-text.ensures.taken c.in_ok-text.ensures.end c.as_slice.ensures.value c.in_ok-answer.ensures c.write_answer.ensures.text h

@@ -1,6 +1,0 @@
--- Nothing of the block is told.
-use Rattle.std.proofs.Common.{rules}
-use Rattle.ring_passes.proofs.output_block.OutputBlock.over.Goals as goal
-
-pub returns : goal.returns
-returns c = search rules

@@ -1,5 +1,0 @@
-pub mod QuietSteps
-pub mod OnlyAsked
-pub mod Prelude
-pub mod ByteRounds
-pub mod Traces

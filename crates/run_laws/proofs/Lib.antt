@@ -1,0 +1,6 @@
+-- Lemmas.
+pub mod DeviceReads
+pub mod StepOnce
+pub mod EventOnce
+pub mod StaysTold
+pub mod RunOnce

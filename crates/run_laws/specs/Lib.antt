@@ -1,0 +1,2 @@
+pub mod KnownFiles
+pub mod Deterministic

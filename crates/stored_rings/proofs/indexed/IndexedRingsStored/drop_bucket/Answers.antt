@@ -1,5 +1,0 @@
-use Rattle.stored_rings.proofs.Tested.{noted_in, dropped}
-use Rattle.stored_rings.proofs.indexed.IndexedRingsStored.drop_bucket.Goals as goal
-
-pub invariant_of-self-clause-indexed : goal.invariant_of-self-clause-indexed
-invariant_of-self-clause-indexed g c = dropped (noted_in c.args.self.now) c.drop_bucket.new.self c.args.id c.requires c.drop_bucket.ensures.out

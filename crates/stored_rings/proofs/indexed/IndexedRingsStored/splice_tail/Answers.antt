@@ -1,5 +1,0 @@
-use Rattle.stored_rings.proofs.Tested.{noted_in, spliced}
-use Rattle.stored_rings.proofs.indexed.IndexedRingsStored.splice_tail.Goals as goal
-
-pub invariant_of-self-clause-indexed : goal.invariant_of-self-clause-indexed
-invariant_of-self-clause-indexed g c = spliced (noted_in c.args.self.now) c.splice_tail.new.self c.args.ring c.args.from c.splice_tail.ensures.out

@@ -1,5 +1,0 @@
-use Rattle.stored_rings.proofs.Models as models
-use Rattle.stored_rings.proofs.laws.lists_are_the_models.Goals as goal
-
-pub returns : goal.returns
-returns c = models.lists_are_the_models

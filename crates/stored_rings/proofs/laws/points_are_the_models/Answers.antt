@@ -1,5 +1,0 @@
-use Rattle.stored_rings.proofs.Parts as parts
-use Rattle.stored_rings.proofs.laws.points_are_the_models.Goals as goal
-
-pub returns : goal.returns
-returns c = parts.points_are_the_models

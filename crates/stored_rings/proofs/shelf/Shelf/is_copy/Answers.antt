@@ -1,6 +1,0 @@
--- The bytes are compared.
-use Rattle.std.proofs.Common.{rules}
-use Rattle.stored_rings.proofs.shelf.Shelf.is_copy.Goals as goal
-
-pub returns-in-Placed-Bytes : goal.returns-in-Placed-Bytes
-returns-in-Placed-Bytes g c = search rules
