@@ -71,8 +71,9 @@ impl<T: Drop> PoolTree<T> {
         Ok(found)
     }
 
-    /// The pools under a pool, without itself: read from the last on, in the order in which a clear of it hands them on. It looks at no other pool.
+    /// The pools under a pool that is there, without itself: read from the last on, in the order in which a clear of it hands them on. It looks at no other pool.
     pub fn pools_under(&self, pool: PoolId) -> Result<Vec<PoolId>, AllocError>
+        requires { IsTrue (is_live (map_of self.now) pool) }
         ensures { IfOk result (λ found. reverse found.items ≡ order_under (map_of self.now) pool) }
     {
         let mut found = Vec::new(self.alloc);

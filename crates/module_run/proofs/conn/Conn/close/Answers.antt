@@ -5,8 +5,12 @@ use Rattle.pool_tree.specs.Tree.{map_of}
 use Rattle.brigade_ops.specs.House.{AreOpen}
 use Rattle.brigade_ops.proofs.HouseCalls.{house_still}
 use Rattle.module_run.proofs.Neighbours.{then_same, unmoved}
+use Rattle.module_run.proofs.RequestBegins.{conn_live}
 use Rattle.module_run.proofs.Unreferred.{same_device}
 use Rattle.module_run.proofs.conn.Conn.close.Goals as goal
+
+pub pools_under-requires : goal.pools_under-requires
+pools_under-requires g c = (let s = c.requires.stands in conn_live s.0 c.args.tree.now c.args.store.now (g.F.Files.device c.args.files.now) c.args.self.now s.1.linked s.1.so)
 
 pub returns-clause-gone : goal.returns-clause-gone
 returns-clause-gone g c n held = c.give_up.ensures.same n ∙ c.in_ok-destroy_all.ensures.gone n held
