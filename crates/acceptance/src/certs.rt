@@ -206,7 +206,7 @@ fn part_of(alloc: Global, with: WithCert) -> Result<ScriptModule> {
     let mut cert = source(cert.as_bytes());
     match load_part(alloc, &mut source(with.0), &mut cert)? {
         Loaded::Part(part) => Ok(part),
-        Loaded::Told(_) => Err(Missing.into()),
+        Loaded::Refused(_) => Err(Missing.into()),
     }
 }
 

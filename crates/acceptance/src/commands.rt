@@ -161,7 +161,7 @@ struct Four<R> {
 
 impl<R: Rings<u8> + Drop> Four<R> {
     /// The names and letters of all four rings, each behind its own name.
-    fn told(&self, alloc: Global) -> Result<NamedLetters, AllocError> {
+    fn births(&self, alloc: Global) -> Result<NamedLetters, AllocError> {
         let mut told = Vec::new(alloc);
         for name in &self.names {
             let head = BucketId {
@@ -224,7 +224,7 @@ fn play_all<R: Rings<u8> + Drop>(alloc: Global, four: &mut Four<R>) -> Result<Ve
         number = number.wrapping_mul(6364136223846793005);
         number = number.wrapping_add(1442695040888963407);
         four.play(alloc, command_of(number >> 33))?;
-        history.push(four.told(alloc)?)?;
+        history.push(four.births(alloc)?)?;
     }
     Ok(history)
 }

@@ -9,7 +9,7 @@ use Rattle.filter_files.specs.declared.settings.ParamSetting.{ParamSetting}
 -- where each was set, it was whatever a text is
 pub sets_all : (r : FilterRead) (settings : List ParamSetting) → All IsUsed settings → SetsAll r settings
 sets_all (filter.Compiled c) settings all = all
-sets_all (filter.Told f) settings all = tt
+sets_all (filter.Faulty f) settings all = tt
 
 -- What is seen of values stays where one is changed of which the same is seen.
 pub set_to_same : {X Y : Type 0} (f : X → Y) (xs : List X) (i : ℕ) (y d : X) → f y ≡ f (get_or xs i d) → map f (set xs i y) ≡ map f xs

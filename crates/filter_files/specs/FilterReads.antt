@@ -10,9 +10,9 @@ use Rattle.filter_files.specs.declared.settings.ParamSetting.{ParamSetting}
 
 abbrev pub IsFilterRead : List ℕ → FilterRead → Type 0
 IsFilterRead text (filter.Compiled c) = Accepts c.code c.cert × IsReadAs c.text.items (Ok c.code)
-IsFilterRead text (filter.Told f) = IsFaultOf text f.place f.line.items
+IsFilterRead text (filter.Faulty f) = IsFaultOf text f.place f.line.items
 
 -- where there is a module, each setting was set
 abbrev pub SetsAll : FilterRead → List ParamSetting → Type 0
 SetsAll (filter.Compiled c) settings = All IsUsed settings
-SetsAll (filter.Told f) settings = Unit {0}
+SetsAll (filter.Faulty f) settings = Unit {0}

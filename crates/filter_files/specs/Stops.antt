@@ -12,5 +12,5 @@ refused_filter index None = []
 
 -- the fault of a filter, told of this index
 abbrev pub IsStopOf : ℕ → FilterFault → StartError → Type 0
-IsStopOf index f (stop.Told out cause) = out.items ≡ refused_filter index f.place ++ f.line.items
+IsStopOf index f (stop.Line out cause) = out.items ≡ refused_filter index f.place ++ f.line.items
 IsStopOf index f stop.NoMemory = ⊥

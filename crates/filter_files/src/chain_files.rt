@@ -5,7 +5,7 @@ ghost use Rattle.filter_files.specs.Stops.{IsStopOf};
 
 use crate::compiling::{FilterFault, FilterRead, read_filter};
 use crate::settings::{ParamSetting, unused_setting};
-use crate::start_error::{StartCause, StartError, cannot_read, named_lines, told};
+use crate::start_error::{StartCause, StartError, cannot_read, named_lines, stop_with};
 use author_code::PerByte;
 use author_compile::Compiled;
 use byte_streams::CountedSource;
@@ -40,9 +40,9 @@ fn part_of(
 ) -> Result<ScriptModule, StartError> {
     match loaded {
         Ok(Loaded::Part(part)) => Ok(part),
-        Ok(Loaded::Told(CommandOutput { text, ended: _ })) => {
+        Ok(Loaded::Refused(CommandOutput { text, ended: _ })) => {
             let cause = named_lines(alloc, name, text.as_slice(), &[])?;
-            Err(StartError::Told(text, cause))
+            Err(StartError::Line(text, cause))
         }
         Err(fault) => Err(stop_of(alloc, fault, name, cause)),
     }
@@ -90,12 +90,12 @@ fn stop_of_filter(
 {
     let FilterFault { place, line } = fault;
     if place.is_none() {
-        return Ok(StartError::Told(line, cause));
+        return Ok(StartError::Line(line, cause));
     }
     let head = format!(in alloc; "refused module {index} at ")?;
     let mut text = Vec::from_slice(alloc, head.as_bytes())?;
     text.extend_from_slice(line.as_slice())?;
-    Ok(StartError::Told(text, cause))
+    Ok(StartError::Line(text, cause))
 }
 
 /// What is read of the files of a chain.
@@ -164,7 +164,7 @@ fn read_part<R: FileSystem + AllocGlobal>(
     let mut notes = Vec::new(alloc);
     match read_source_file(rt, name, settings, &mut notes)? {
         FilterRead::Compiled(compiled) => parts.add_compiled(compiled),
-        FilterRead::Told(fault) => {
+        FilterRead::Faulty(fault) => {
             let cause = named_lines(alloc, name, fault.line.as_slice(), notes.as_slice())?;
             Err(stop_of_filter(alloc, index, fault, cause)?)
         }
@@ -173,7 +173,7 @@ fn read_part<R: FileSystem + AllocGlobal>(
 
 /// The words of the command let no such chain through.
 fn no_chain(alloc: Global) -> StartError {
-    told(alloc, format!(in alloc; "a chain has 1 to 16 modules\n"))
+    stop_with(alloc, format!(in alloc; "a chain has 1 to 16 modules\n"))
 }
 
 /// Reads these files, each a module with its certificate or a filter.
@@ -200,7 +200,7 @@ fn stop_of_module(alloc: Global, names: &[&str], at: Refused) -> Result<StartErr
     put_refused_at(alloc, &mut own, at.refusal.pc, at.refusal.rule)?;
     let name = names.get(at.index).copied().unwrap_or("");
     let cause = named_lines(alloc, name, own.as_slice(), &[])?;
-    Ok(StartError::Told(line, cause))
+    Ok(StartError::Line(line, cause))
 }
 
 /// The chain of these modules, which is checked. They are those of these files.
@@ -225,7 +225,7 @@ fn chain_of(
 fn unless_unused(alloc: Global, settings: &[ParamSetting<'_>]) -> Result<(), StartError> {
     match unused_setting(alloc, settings)? {
         None => Ok(()),
-        Some(FilterFault { place: _, line }) => Err(StartError::Told(line, StartCause::Told)),
+        Some(FilterFault { place: _, line }) => Err(StartError::Line(line, StartCause::InLine)),
     }
 }
 
@@ -242,7 +242,7 @@ pub struct FileChain {
 /// any other a module, whose certificate stands in the file of its name with `.cert` behind it. A setting is for each filter that has a `param`
 /// of its name, and where it names filters, for each of them.
 ///
-/// `Told`: the first file that cannot be read, or is none of these, or a setting that is for no filter, or a module that is refused.
+/// `Line`: the first file that cannot be read, or is none of these, or a setting that is for no filter, or a module that is refused.
 /// `NoMemory`: there was none.
 pub fn read_chain<R: FileSystem + AllocGlobal>(
     rt: &R,

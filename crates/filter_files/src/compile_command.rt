@@ -51,7 +51,7 @@ fn answer_of(
 {
     match compile_text(alloc, text, settings, true, notes)? {
         FilterRead::Compiled(compiled) => Ok(module_answer(compiled)),
-        FilterRead::Told(fault) => Ok(fault_answer(fault)),
+        FilterRead::Faulty(fault) => Ok(fault_answer(fault)),
     }
 }
 

@@ -1,4 +1,4 @@
-//! A text is compiled to a module, or what is wrong with it is told.
+//! A text is compiled to a module, or what is wrong with it is reported.
 
 ghost use Rattle.std.specs.Prelude.{◌≡◌, ◌≢◌, None, true, IfErr, IfOk, IfSome};
 ghost use Rattle.filter_files.specs.Prelude.{reads_left, source_of, TellsOfReader, IsFaultOf, TellsInternal, internal_line, place_line};
@@ -24,7 +24,7 @@ use std::alloc::{AllocError, Global};
 pub struct FilterFault {
     /// The place of the text; none where a setting is refused, and for an internal error.
     pub place: Option<Place>,
-    /// The line that tells it, with its end: `line L, column C: WHAT`, `cannot set NAME: WHY`, or `internal error: WHAT`.
+    /// The line that says it, with its end: `line L, column C: WHAT`, `cannot set NAME: WHY`, or `internal error: WHAT`.
     pub line: Vec<u8>,
 }
 
@@ -34,11 +34,11 @@ pub enum FilterRead {
     /// Its module, which is accepted.
     Compiled(Compiled),
     /// Why it is not compiled.
-    Told(FilterFault),
+    Faulty(FilterFault),
 }
 
 /// What is wrong at a place of a text; the source line goes to the notes.
-fn told_at(
+fn fault_at(
     alloc: Global,
     text: &[u8],
     place: Place,
@@ -67,7 +67,7 @@ fn place_line(alloc: Global, place: Place, what: &[u8]) -> Result<Vec<u8>, Alloc
 }
 
 /// What is wrong with a text.
-fn told_refusal(
+fn refusal_fault(
     alloc: Global,
     text: &[u8],
     refusal: Refusal,
@@ -76,7 +76,7 @@ fn told_refusal(
     ensures { IfOk result (λ f. IsFaultOf text.now f.place f.line.items) }
 {
     match refusal {
-        Refusal::Mistake { line, column, what } => told_at(
+        Refusal::Mistake { line, column, what } => fault_at(
             alloc,
             text,
             Place { line, column },
@@ -97,7 +97,7 @@ fn internal_line(alloc: Global, what: &[u8]) -> Result<Vec<u8>, AllocError>
 }
 
 /// An internal error, of which this line says what it is.
-fn told_internal(alloc: Global, what: &[u8]) -> Result<FilterFault, AllocError>
+fn internal_fault(alloc: Global, what: &[u8]) -> Result<FilterFault, AllocError>
     ensures { IfOk result (λ f. (f.place ≡ None) × TellsInternal f.line.items) }
 {
     let line = internal_line(alloc, what)?;
@@ -105,30 +105,30 @@ fn told_internal(alloc: Global, what: &[u8]) -> Result<FilterFault, AllocError>
 }
 
 /// The internal error that what was written is no module.
-fn told_no_module(alloc: Global, refusal: AsmRefusal) -> Result<FilterFault, AllocError>
+fn no_module_fault(alloc: Global, refusal: AsmRefusal) -> Result<FilterFault, AllocError>
     ensures { IfOk result (λ f. (f.place ≡ None) × TellsInternal f.line.items) }
 {
     match refusal {
         AsmRefusal::Fault { line, code } => {
             let mut what = Vec::new(alloc);
             put_asm_fault(alloc, &mut what, line, code.number())?;
-            told_internal(alloc, what.as_slice())
+            internal_fault(alloc, what.as_slice())
         }
         AsmRefusal::NoMemory => Err(AllocError),
     }
 }
 
 /// The internal error that the module that was written is refused.
-fn told_refused(alloc: Global, refusal: CheckRefusal) -> Result<FilterFault, AllocError>
+fn refused_fault(alloc: Global, refusal: CheckRefusal) -> Result<FilterFault, AllocError>
     ensures { IfOk result (λ f. (f.place ≡ None) × TellsInternal f.line.items) }
 {
     let mut what = Vec::new(alloc);
     put_refused_at(alloc, &mut what, refusal.pc, refusal.rule)?;
-    told_internal(alloc, what.as_slice())
+    internal_fault(alloc, what.as_slice())
 }
 
 /// Why a filter has no module.
-fn told_error(
+fn no_compile_fault(
     alloc: Global,
     text: &[u8],
     filter: &Filter,
@@ -140,10 +140,10 @@ fn told_error(
     match error {
         CompileError::At { place, fault } => {
             let what = fault_text(alloc, filter, fault)?;
-            told_at(alloc, text, place, what.as_slice(), notes)
+            fault_at(alloc, text, place, what.as_slice(), notes)
         }
-        CompileError::NotAssembled(refusal) => told_no_module(alloc, refusal),
-        CompileError::NotAccepted(refusal) => told_refused(alloc, refusal),
+        CompileError::NotAssembled(refusal) => no_module_fault(alloc, refusal),
+        CompileError::NotAccepted(refusal) => refused_fault(alloc, refusal),
         CompileError::NoMemory => Err(AllocError),
     }
 }
@@ -162,7 +162,7 @@ fn compiled(
             put_figures(alloc, notes, filter, &compiled)?;
             Ok(FilterRead::Compiled(compiled))
         }
-        Err(error) => Ok(FilterRead::Told(told_error(alloc, text, filter, error, notes)?)),
+        Err(error) => Ok(FilterRead::Faulty(no_compile_fault(alloc, text, filter, error, notes)?)),
     }
 }
 
@@ -183,18 +183,18 @@ pub fn compile_text(
     let mut source = match read_source(alloc, text) {
         Ok(source) => source,
         Err(refusal) => {
-            let fault = told_refusal(alloc, text, refusal, notes)?;
-            return Ok(FilterRead::Told(fault));
+            let fault = refusal_fault(alloc, text, refusal, notes)?;
+            return Ok(FilterRead::Faulty(fault));
         }
     };
     if let Some(fault) = set_params(alloc, &mut source, settings, is_alone)? {
-        return Ok(FilterRead::Told(fault));
+        return Ok(FilterRead::Faulty(fault));
     }
     match resolve_source(alloc, &source) {
         Ok(filter) => compiled(alloc, text, &filter, notes),
         Err(refusal) => {
-            let fault = told_refusal(alloc, text, refusal, notes)?;
-            Ok(FilterRead::Told(fault))
+            let fault = refusal_fault(alloc, text, refusal, notes)?;
+            Ok(FilterRead::Faulty(fault))
         }
     }
 }

@@ -19,4 +19,4 @@ pub use compiling::{FilterFault, FilterRead, compile_text, read_filter};
 pub use life_check::CheckedChain;
 pub use module_commands::{CommandOutput, Ended, PlayFault};
 pub use settings::{ParamSetting, no_setting, setting_of, unused_setting};
-pub use start_error::{StartCause, StartError, cannot_read, told, told_for, write_stop};
+pub use start_error::{StartCause, StartError, cannot_read, stop_for, stop_with, write_stop};

@@ -1,4 +1,4 @@
-//! What is told beside an answer, for the standard error: figures of a module, and a line of a source with its place.
+//! What is written beside an answer, for the standard error: figures of a module, and a line of a source with its place.
 
 use author_code::PerByte;
 use author_compile::Compiled;

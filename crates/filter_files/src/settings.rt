@@ -65,7 +65,7 @@ pub fn setting_of(word: &[u8]) -> Option<ParamSetting<'_>>
     }
 }
 
-/// What is told of a word that says no setting.
+/// The line for a word that says no setting.
 pub fn no_setting(alloc: Global, word: &[u8]) -> Result<FilterFault, AllocError>
     ensures { IfOk result (λ f. (f.place ≡ None) × TellsSetting f.line.items) }
 {
@@ -75,7 +75,7 @@ pub fn no_setting(alloc: Global, word: &[u8]) -> Result<FilterFault, AllocError>
         value: b"",
         is_used: false,
     };
-    told_setting(alloc, &setting, "NAME=VALUE is due")
+    setting_fault(alloc, &setting, "NAME=VALUE is due")
 }
 
 /// Whether it is for filters of this name.
@@ -86,8 +86,8 @@ fn is_for(setting: &ParamSetting<'_>, filter: &[u8]) -> bool {
     }
 }
 
-/// What is told of a setting: `cannot set NAME: WHY`, with the filter's name where it was said.
-fn told_setting(
+/// The line for a setting: `cannot set NAME: WHY`, with the filter's name where it was said.
+fn setting_fault(
     alloc: Global,
     setting: &ParamSetting<'_>,
     why: &str,
@@ -116,13 +116,13 @@ fn refused_value(refusal: SetRefusal) -> Result<&'static str, AllocError> {
     }
 }
 
-/// Sets a `param` of a filter, if the setting is for it. What is told is that the value is none.
+/// Sets a `param` of a filter, if the setting is for it. The fault says that the value is none.
 fn set_one(
     alloc: Global,
     source: &mut Source<'_>,
     setting: &mut ParamSetting<'_>,
 ) -> Result<Option<FilterFault>, AllocError>
-    ensures told { IfOk result (λ o. IfSome o (λ f. (f.place ≡ None) × TellsSetting f.line.items)) }
+    ensures line { IfOk result (λ o. IfSome o (λ f. (f.place ≡ None) × TellsSetting f.line.items)) }
     ensures word { setting_word setting.new ≡ setting_word setting.old }
 {
     if !is_for(setting, source.name) {
@@ -136,18 +136,18 @@ fn set_one(
         Err(SetRefusal::Unknown) => Ok(None),
         Err(refusal) => {
             let why = refused_value(refusal)?;
-            Ok(Some(told_setting(alloc, setting, why)?))
+            Ok(Some(setting_fault(alloc, setting, why)?))
         }
     }
 }
 
-/// Sets the params of a filter that settings are for. What is told is the first value that is none.
+/// Sets the params of a filter that settings are for. The fault is of the first value that is none.
 fn set_each(
     alloc: Global,
     source: &mut Source<'_>,
     settings: &mut [ParamSetting<'_>],
 ) -> Result<Option<FilterFault>, AllocError>
-    ensures told { IfOk result (λ o. IfSome o (λ f. (f.place ≡ None) × TellsSetting f.line.items)) }
+    ensures line { IfOk result (λ o. IfSome o (λ f. (f.place ≡ None) × TellsSetting f.line.items)) }
     ensures words { KeepsWords settings.old settings.new }
 {
     for setting in settings.iter_mut() {
@@ -158,7 +158,7 @@ fn set_each(
     Ok(None)
 }
 
-/// Sets the params of a filter that settings are for. What is told is the first value that is none, and where the filter `is_alone`, the
+/// Sets the params of a filter that settings are for. The fault is of the first value that is none, and where the filter `is_alone`, the
 /// first setting that it has no `param` for.
 pub fn set_params(
     alloc: Global,
@@ -166,7 +166,7 @@ pub fn set_params(
     settings: &mut [ParamSetting<'_>],
     is_alone: bool,
 ) -> Result<Option<FilterFault>, AllocError>
-    ensures told { IfOk result (λ o. IfSome o (λ f. (f.place ≡ None) × TellsSetting f.line.items)) }
+    ensures line { IfOk result (λ o. IfSome o (λ f. (f.place ≡ None) × TellsSetting f.line.items)) }
     ensures used { IfOk result (λ o. IfNone o (is_alone ≡ true → All IsUsed settings.new)) }
     ensures words { KeepsWords settings.old settings.new }
 {
@@ -179,18 +179,18 @@ pub fn set_params(
     Ok(None)
 }
 
-/// What is told of the first setting that no filter has a `param` for; none where each was set.
+/// The fault of the first setting that no filter has a `param` for; none where each was set.
 pub fn unused_setting(
     alloc: Global,
     settings: &[ParamSetting<'_>],
 ) -> Result<Option<FilterFault>, AllocError>
-    ensures told { IfOk result (λ o. IfSome o (λ f. (f.place ≡ None) × TellsSetting f.line.items)) }
+    ensures line { IfOk result (λ o. IfSome o (λ f. (f.place ≡ None) × TellsSetting f.line.items)) }
     ensures used { IfOk result (λ o. IfNone o (All IsUsed settings.now)) }
 {
     for setting in settings {
         if !setting.is_used {
             let why = refused_value(SetRefusal::Unknown)?;
-            return Ok(Some(told_setting(alloc, setting, why)?));
+            return Ok(Some(setting_fault(alloc, setting, why)?));
         }
     }
     Ok(None)

@@ -1,4 +1,4 @@
-//! Why a command does not start, and what is told of it.
+//! Why a command does not start, and what is written of it.
 
 use byte_text::{TextWriter, put_all};
 use module_commands::PlayFault;
@@ -6,11 +6,11 @@ use std::alloc::{AllocError, Global};
 use std::process::ExitCode;
 use std::{fmt, io};
 
-/// Why it is so, as far as it is known. It is told on the standard error.
+/// Why it is so, as far as it is known. It is written on the standard error.
 #[derive(Drop)]
 pub enum StartCause {
     /// The line on the standard output says all.
-    Told,
+    InLine,
     /// The system said this.
     System(io::Error),
     /// These words say it.
@@ -24,12 +24,12 @@ impl StartCause {
     pub fn of_fault(fault: Option<io::Error>) -> StartCause {
         match fault {
             Some(fault) => StartCause::System(fault),
-            None => StartCause::Told,
+            None => StartCause::InLine,
         }
     }
 }
 
-/// What is told of a file that is refused: its name and the line that refuses it, and notes below.
+/// What is written of a file that is refused: its name and the line that refuses it, and notes below.
 pub fn named_lines(
     alloc: Global,
     name: &str,
@@ -42,14 +42,14 @@ pub fn named_lines(
     lines.extend_from_slice(notes)?;
     match String::from_utf8(lines) {
         Ok(lines) => Ok(StartCause::Lines(lines)),
-        Err(_) => Ok(StartCause::Told),
+        Err(_) => Ok(StartCause::InLine),
     }
 }
 
 impl fmt::Display for StartCause {
     fn fmt<W: fmt::Write>(&self, f: &mut fmt::Formatter<W>) -> fmt::Result {
         match self {
-            StartCause::Told => Ok(()),
+            StartCause::InLine => Ok(()),
             StartCause::System(fault) => write!(f, "cause: {fault}\n"),
             StartCause::Words(words) => write!(f, "cause: {words}\n"),
             StartCause::Lines(lines) => write!(f, "{lines}"),
@@ -60,8 +60,8 @@ impl fmt::Display for StartCause {
 /// Why a command does not start.
 #[derive(Drop)]
 pub enum StartError {
-    /// The line that tells it, and the cause.
-    Told(Vec<u8>, StartCause),
+    /// The line that says it, and the cause.
+    Line(Vec<u8>, StartCause),
     /// There was no memory.
     NoMemory,
 }
@@ -72,42 +72,42 @@ impl From<AllocError> for StartError {
     }
 }
 
-/// The stop that this line tells, for this cause.
-pub fn told_for(alloc: Global, line: Result<String, AllocError>, cause: StartCause) -> StartError {
+/// The stop with this line, for this cause.
+pub fn stop_for(alloc: Global, line: Result<String, AllocError>, cause: StartCause) -> StartError {
     let Ok(line) = line else {
         return StartError::NoMemory;
     };
     match Vec::from_slice(alloc, line.as_bytes()) {
-        Ok(text) => StartError::Told(text, cause),
+        Ok(text) => StartError::Line(text, cause),
         Err(AllocError) => StartError::NoMemory,
     }
 }
 
-/// The stop that this line tells.
-pub fn told(alloc: Global, line: Result<String, AllocError>) -> StartError {
-    told_for(alloc, line, StartCause::Told)
+/// The stop with this line.
+pub fn stop_with(alloc: Global, line: Result<String, AllocError>) -> StartError {
+    stop_for(alloc, line, StartCause::InLine)
 }
 
 /// The stop of a file of this name that cannot be read.
 pub fn cannot_read(alloc: Global, name: &str, cause: StartCause) -> StartError {
-    told_for(alloc, format!(in alloc; "cannot read {name}\n"), cause)
+    stop_for(alloc, format!(in alloc; "cannot read {name}\n"), cause)
 }
 
 fn is_put<R: Print>(rt: &R, line: &[u8]) -> bool {
     put_all(&mut TextWriter::new(io::writer(rt)), line).is_ok()
 }
 
-fn is_told<R: Print>(rt: &R, fault: PlayFault) -> bool {
+fn is_written<R: Print>(rt: &R, fault: PlayFault) -> bool {
     rt.println(fault).is_ok()
 }
 
 /// Ends with a line on the standard output and its cause on the standard error, or with a line there on a fault of the standard output.
 pub fn write_stop<R: Print + Eprint>(rt: &R, stop: StartError) -> ExitCode {
-    let (told, cause) = match stop {
-        StartError::Told(line, cause) => (is_put(rt, line.as_slice()), cause),
-        StartError::NoMemory => (is_told(rt, PlayFault::NoMemory), StartCause::Told),
+    let (written, cause) = match stop {
+        StartError::Line(line, cause) => (is_put(rt, line.as_slice()), cause),
+        StartError::NoMemory => (is_written(rt, PlayFault::NoMemory), StartCause::InLine),
     };
-    let _ = if told {
+    let _ = if written {
         rt.eprint(cause)
     } else {
         rt.eprintln(PlayFault::Write)

@@ -1,4 +1,4 @@
-//! How the program ends: what it tells then, and its status.
+//! How the program ends: what it writes then, and its status.
 
 use byte_streams::StdSink;
 use clap::Error;
@@ -8,28 +8,28 @@ use std::io;
 use std::io::IsTerminal;
 use std::process::ExitCode;
 
-/// Tells that a line cannot be written.
+/// Writes that a line cannot be written.
 fn end_unwritten(rt: &HostRuntime) -> ExitCode {
     let _ = rt.eprintln(PlayFault::Write);
     ExitCode::FAILURE
 }
 
-/// Tells how a task ended, and a fault of the program by one line; the name is that of what could not be read. Why it could not, where that is
-/// known, is told on the standard error.
+/// Writes how a task ended, and a fault of the program by one line; the name is that of what could not be read. Why it could not, where that is
+/// known, is written on the standard error.
 pub fn end(
     rt: &HostRuntime,
     ended: Result<Ended, PlayFault>,
     name: &str,
     why: Option<io::Error>,
 ) -> ExitCode {
-    let told = match ended {
+    let written = match ended {
         Ok(Ended::Done) => return ExitCode::SUCCESS,
         Ok(Ended::Refused) => Ok(()),
         Err(PlayFault::Read) => rt.println(format_args!("{} {name}", PlayFault::Read)),
         Err(fault @ PlayFault::NoMemory) => rt.println(fault),
         Err(PlayFault::Write) => return end_unwritten(rt),
     };
-    if told.is_err() {
+    if written.is_err() {
         return end_unwritten(rt);
     }
     if let Some(why) = why {
@@ -38,7 +38,7 @@ pub fn end(
     ExitCode::FAILURE
 }
 
-/// Tells why the words ask for nothing, or the help that they ask for.
+/// Writes why the words ask for nothing, or the help that they ask for.
 pub fn end_words(rt: &HostRuntime, error: &Error) -> ExitCode {
     if error.kind() == ErrorKind::OutOfMemory {
         return end(rt, Err(PlayFault::NoMemory), "", None);
@@ -53,7 +53,7 @@ pub fn end_words(rt: &HostRuntime, error: &Error) -> ExitCode {
     }
 }
 
-/// Tells of a word behind `--set` that it sets nothing.
+/// Writes of a word behind `--set` that it sets nothing.
 pub fn end_unset(rt: &HostRuntime, word: &str) -> ExitCode {
     let _ = rt.eprintln(format_args!(
         "error: --set takes NAME=VALUE or FILTER.NAME=VALUE, not {word}"
@@ -61,12 +61,12 @@ pub fn end_unset(rt: &HostRuntime, word: &str) -> ExitCode {
     ExitCode::from(2)
 }
 
-/// Tells what is of use beside an answer.
+/// Writes what is of use beside an answer.
 pub fn write_notes(rt: &HostRuntime, notes: &[u8]) {
     let _ = write_text(&mut StdSink::new(rt.stderr()), notes);
 }
 
-/// Tells the line that refuses a file on the standard error too, with the file's name, where the standard output is no terminal and so may be a file.
+/// Writes the line that refuses a file on the standard error too, with the file's name, where the standard output is no terminal and so may be a file.
 pub fn write_named(rt: &HostRuntime, file: &str, line: &[u8]) {
     if !rt.stdout().is_terminal() {
         let _ = rt.eprint(format_args!("{file}: "));
@@ -74,7 +74,7 @@ pub fn write_named(rt: &HostRuntime, file: &str, line: &[u8]) {
     }
 }
 
-/// Ends with the line that tells why a filter or a setting is refused, and with notes.
+/// Ends with the line that says why a filter or a setting is refused, and with notes.
 pub fn end_refused(rt: &HostRuntime, line: &[u8], notes: &[u8]) -> ExitCode {
     let written = write_text(&mut StdSink::new(rt.stdout()), line);
     let ended = match written {

@@ -37,7 +37,7 @@ pub fn filter_options<'a>(
     })
 }
 
-/// Tells on the standard error why not all of the body was filtered: the standard output has what came out.
+/// Writes on the standard error why not all of the body was filtered: the standard output has what came out.
 fn end_filter(rt: &HostRuntime, ended: Result<BodyEnd, PlayFault>) -> ExitCode {
     let _ = match ended {
         Ok(BodyEnd::Whole) => return ExitCode::SUCCESS,

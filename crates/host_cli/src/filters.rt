@@ -1,4 +1,4 @@
-//! Filters in the language for authors: they are compiled, and what is refused of them is told.
+//! Filters in the language for authors: they are compiled, and what is refused of them is reported.
 
 use crate::endings::{end, end_refused, write_named, write_notes};
 use byte_streams::{CountedSource, StdSink};
@@ -16,7 +16,7 @@ pub fn unless_unused(rt: &HostRuntime, settings: &[ParamSetting<'_>]) -> Result<
     }
 }
 
-/// The text of the module of a filter. Where it has none, that is told.
+/// The text of the module of a filter. Where it has none, that is reported.
 pub fn module_text(
     rt: &HostRuntime,
     file: &str,

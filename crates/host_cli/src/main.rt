@@ -34,8 +34,8 @@ fn assemble_file(rt: &HostRuntime, file: &str) -> ExitCode {
     end(rt, assembled, file, reader.source().reader.fault())
 }
 
-/// Whether help is told on the standard error: where it was asked for, or where that is a terminal.
-fn tells_help(rt: &HostRuntime, asked: bool) -> bool {
+/// Whether help is written on the standard error: where it was asked for, or where that is a terminal.
+fn shows_help(rt: &HostRuntime, asked: bool) -> bool {
     asked || rt.stderr().is_terminal()
 }
 
@@ -50,7 +50,7 @@ fn is_refused(ended: &Result<Ended, PlayFault>) -> bool {
     matches!(ended, Ok(Ended::Refused))
 }
 
-/// Makes a certificate of what a reader gives, and tells how that ended.
+/// Makes a certificate of what a reader gives, and writes how that ended.
 fn certify<T: Read + Drop>(
     rt: &HostRuntime,
     input: T,
@@ -97,7 +97,7 @@ fn certify_input(
 }
 
 fn play_script(rt: &HostRuntime, asked: bool) -> ExitCode {
-    let helps = tells_help(rt, asked);
+    let helps = shows_help(rt, asked);
     let input = Recorded::new(rt.alloc(), rt.stdin(), helps);
     let mut reader = CountedSource::from_reader(input);
     let mut writer = StdSink::new(RecordedWriter::new(rt.alloc(), rt.stdout(), helps));
@@ -109,7 +109,7 @@ fn play_script(rt: &HostRuntime, asked: bool) -> ExitCode {
     end(rt, played, "standard input", None)
 }
 
-/// Checks or upgrades a certificate of a module, and tells how that ended.
+/// Checks or upgrades a certificate of a module, and writes how that ended.
 fn ask_with_cert<T: Read + Drop, C: Read + Drop>(
     rt: &HostRuntime,
     task: CertTask,
@@ -145,7 +145,7 @@ fn explained(
     }
 }
 
-/// Tells how it ended that a certificate was asked for, with the file that was read last.
+/// Writes how it ended that a certificate was asked for, with the file that was read last.
 fn end_with_cert(
     rt: &HostRuntime,
     ended: Result<Ended, PlayFault>,
@@ -205,7 +205,7 @@ fn perform(rt: &HostRuntime, task: CliTask<'_>) -> ExitCode {
             file,
             mut settings,
             explains,
-        } => compile_file(rt, file, settings.as_mut_slice(), tells_help(rt, explains)),
+        } => compile_file(rt, file, settings.as_mut_slice(), shows_help(rt, explains)),
         CliTask::Certify {
             file: Some(file),
             mut settings,
@@ -216,14 +216,14 @@ fn perform(rt: &HostRuntime, task: CliTask<'_>) -> ExitCode {
             file,
             settings.as_mut_slice(),
             is_slim,
-            tells_help(rt, explains),
+            shows_help(rt, explains),
         )),
         CliTask::Certify {
             file: None,
             settings,
             is_slim,
             explains,
-        } => code_of(certify_input(rt, settings.as_slice(), is_slim, tells_help(rt, explains))),
+        } => code_of(certify_input(rt, settings.as_slice(), is_slim, shows_help(rt, explains))),
         CliTask::WithCert {
             task,
             file,
@@ -236,7 +236,7 @@ fn perform(rt: &HostRuntime, task: CliTask<'_>) -> ExitCode {
             file,
             cert,
             settings.as_mut_slice(),
-            tells_help(rt, explains),
+            shows_help(rt, explains),
         )),
         CliTask::Filter(options) => filter_input(rt, options),
         CliTask::Serve(mut options) => run_serve(rt, &mut options),

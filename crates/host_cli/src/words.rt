@@ -93,7 +93,7 @@ const EXPLAIN: UsageWord = UsageWord {
     name: "explain",
     takes: WordTakes::Nothing,
     shown: "",
-    help: "Tells on the standard error why a module is refused, and what to write instead; so it does on a terminal",
+    help: "Writes on the standard error why a module is refused, and what to write instead; so it does on a terminal",
 };
 
 /// Where a filter is compiled.
@@ -109,7 +109,7 @@ const EXPLAIN_PLAYS: UsageWord = UsageWord {
     name: "explain",
     takes: WordTakes::Nothing,
     shown: "",
-    help: "Tells on the standard error, behind the answers, what faults and refusals mean, and what to write instead; so it does on a terminal",
+    help: "Writes on the standard error, behind the answers, what faults and refusals mean, and what to write instead; so it does on a terminal",
 };
 
 const CHAIN: UsageWord = UsageWord {
@@ -174,7 +174,7 @@ const SERVE: &[UsageWord] = &[
         name: "log",
         takes: WordTakes::Nothing,
         shown: "",
-        help: "Tells each request and each connection on the standard error",
+        help: "Logs each request and each connection on the standard error",
     },
     SET,
     CHAIN,
@@ -203,7 +203,7 @@ const COMMANDS: &[CommandRow] = &[
     },
     CommandRow {
         name: "certify",
-        about: "Makes a certificate of a module, or tells why there is none; of standard input with no file",
+        about: "Makes a certificate of a module, or says why there is none; of standard input with no file",
         words: &[MODULE, SLIM, SET, EXPLAIN],
     },
     CommandRow {
@@ -289,7 +289,7 @@ fn command_of<'a>(alloc: Global, row: &'static CommandRow) -> Result<Command<'a>
 }
 
 /// What `--version` prints behind the name of the program.
-const VERSION: &str = "0.1.0-dev";
+const VERSION: &str = "0.1.0";
 
 /// The program, with its commands.
 pub fn program<'a>(alloc: Global) -> Result<Command<'a>, AllocError> {

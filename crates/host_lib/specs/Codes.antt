@@ -97,13 +97,13 @@ abbrev pub only : ℕ → LoadTold
 only what = record { what = what; code = 0; «module» = 0; place = 0; column = 0; message = 0 }
 
 -- a line and a column; 0 and 0 where there is no place
-abbrev pub told_place : Option Place → ℕ × ℕ
-told_place None = (0, 0)
-told_place (Some p) = (p.line, p.column)
+abbrev pub place_numbers : Option Place → ℕ × ℕ
+place_numbers None = (0, 0)
+place_numbers (Some p) = (p.line, p.column)
 
 abbrev pub told_of_filter : ℕ → FilterFault → LoadTold
 told_of_filter index fault =
-    record { what = 7; code = 0; «module» = index; place = (told_place fault.place).0; column = (told_place fault.place).1; message = length fault.line.items }
+    record { what = 7; code = 0; «module» = index; place = (place_numbers fault.place).0; column = (place_numbers fault.place).1; message = length fault.line.items }
 
 -- what is told of why a chain is not taken
 abbrev pub told_of : LoadRefusal → LoadTold

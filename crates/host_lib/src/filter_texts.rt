@@ -27,7 +27,7 @@ pub(crate) fn filter_part(
     let mut notes = Vec::new(alloc);
     match compile_text(alloc, text, settings, false, &mut notes) {
         Ok(FilterRead::Compiled(compiled)) => Ok(compiled_part(compiled)),
-        Ok(FilterRead::Told(fault)) => Err(LoadRefusal::NoFilter { index, fault }),
+        Ok(FilterRead::Faulty(fault)) => Err(LoadRefusal::NoFilter { index, fault }),
         Err(AllocError) => Err(LoadRefusal::NoMemory),
     }
 }

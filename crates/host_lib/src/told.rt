@@ -1,7 +1,7 @@
 //! Why a chain is not taken, as numbers, `struct cidawru_told` of `cidawru.h`, and as a message.
 
 ghost use Rattle.std.specs.Prelude.{◌≡◌};
-ghost use Rattle.host_lib.specs.Codes.{fault_code, message_of, only, told_place, rule_code, told_of, told_of_filter};
+ghost use Rattle.host_lib.specs.Codes.{fault_code, message_of, only, place_numbers, rule_code, told_of, told_of_filter};
 ghost use Rattle.host_lib.specs.Calls.{PutsFront};
 
 use crate::loading::LoadRefusal;
@@ -79,8 +79,8 @@ fn rule_code(rule: Rule) -> u32
 }
 
 /// The line and the column of a place, 0 and 0 where there is none.
-fn told_place(place: Option<Place>) -> (usize, usize)
-    ensures { result ≡ told_place place }
+fn place_numbers(place: Option<Place>) -> (usize, usize)
+    ensures { result ≡ place_numbers place }
 {
     match place {
         Some(place) => (place.line, place.column),
@@ -188,7 +188,7 @@ impl LoadTold {
         ensures { result ≡ told_of_filter index fault }
     {
         let FilterFault { place, line } = fault;
-        let (row, column) = told_place(place);
+        let (row, column) = place_numbers(place);
         LoadTold {
             module: index as u64,
             place: row as u64,

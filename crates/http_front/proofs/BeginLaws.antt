@@ -124,60 +124,60 @@ module _ {H T : Type 0} (site : Site) (among : H → Method → List ℕ → Req
       goes_on = refl;
     }
 
-    by_closes : (closes : Bool) (seen : List ℕ) (whole : Bool) (size : ℕ) (s : ServeStep) (text : List ℕ) (old new : H) → RequestAnswered closes size s
-        → ServesRequest site among tells old before seen closes size text new after → DoesStep site among tells old before seen whole s text new after
-    by_closes true seen whole size s text old new is x = subst (λ (t : ServeStep). DoesStep site among tells old before seen whole t text new after) (sym is) x
-    by_closes false seen whole size s text old new is x = subst (λ (t : ServeStep). DoesStep site among tells old before seen whole t text new after) (sym is) x
+    by_closes : (closes : Bool) (seen : List ℕ) (eof : Bool) (size : ℕ) (s : ServeStep) (text : List ℕ) (old new : H) → RequestAnswered closes size s
+        → ServesRequest site among tells old before seen closes size text new after → DoesStep site among tells old before seen eof s text new after
+    by_closes true seen eof size s text old new is x = subst (λ (t : ServeStep). DoesStep site among tells old before seen eof t text new after) (sym is) x
+    by_closes false seen eof size s text old new is x = subst (λ (t : ServeStep). DoesStep site among tells old before seen eof t text new after) (sym is) x
 
-    does_so : (low seen : List ℕ) (whole : Bool) (a : Asked) (h : RequestHead) (o : RequestOutcome) (old new : H) (s : ServeStep) (text : List ℕ)
+    does_so : (low seen : List ℕ) (eof : Bool) (a : Asked) (h : RequestHead) (o : RequestOutcome) (old new : H) (s : ServeStep) (text : List ℕ)
         → IsAskedBy low a h → BeginsWithin head_limit fields_limit seen h (drop a.head.len seen) → a.head.len ≤ length seen
-        → ComesUnless site among (head_refusal h) old h o new → Sends tells before h o a.head.len s text after → DoesStep site among tells old before seen whole s text new after
-    does_so low seen whole a h o old new s text asked begins fits comes x =
-        by_closes x.reply.closes seen whole a.head.len s text old new x.answered (serves_so low seen a h o old new s text asked begins fits comes x)
+        → ComesUnless site among (head_refusal h) old h o new → Sends tells before h o a.head.len s text after → DoesStep site among tells old before seen eof s text new after
+    does_so low seen eof a h o old new s text asked begins fits comes x =
+        by_closes x.reply.closes seen eof a.head.len s text old new x.answered (serves_so low seen a h o old new s text asked begins fits comes x)
 
     -- a head that was found: it is answered
-    pub found_does : (seen : List ℕ) (spans : List HeaderSpan) (whole : Bool) (r : RequestSpans) (a : Asked) (o : RequestOutcome) (old new : H) (s : ServeStep)
+    pub found_does : (seen : List ℕ) (spans : List HeaderSpan) (eof : Bool) (r : RequestSpans) (a : Asked) (o : RequestOutcome) (old new : H) (s : ServeStep)
         (text : List ℕ) → IsRequestWithin seen spans r → length spans ≡ fields_limit → (found : IsHeadFound head_limit seen spans r)
         → a.head ≡ r → ((h : RequestHead) → IsRequestAt seen spans r h → IsAskedBy seen a h) → BeginsHead site among rests found.0 old (request.Done o) new
         → ((h : RequestHead) → IsAskedBy seen a h → Sends tells before h o a.head.len s text after)
-        → DoesStep site among tells old before seen whole s text new after
-    found_does seen spans whole r a o old new s text within room found is asked comes sends =
+        → DoesStep site among tells old before seen eof s text new after
+    found_does seen spans eof r a o old new s text within room found is asked comes sends =
         let h = found.0 in
         let by = asked h found.1 in
         let begins = subst (λ (x : RequestSpans). BeginsWithin head_limit fields_limit seen h (drop x.len seen)) (sym is)
         (subst (λ (n : ℕ). BeginsWithin head_limit n seen h (drop r.len seen)) room found.2) in
-        does_so seen seen whole a h o old new s text by begins (subst (λ (x : RequestSpans). x.len ≤ length seen) (sym is) within.section.len_fits) comes (sends h by)
+        does_so seen seen eof a h o old new s text by begins (subst (λ (x : RequestSpans). x.len ≤ length seen) (sym is) within.section.len_fits) comes (sends h by)
 
     -- a request is answered that was under way
-    pub under_does : (seen low : List ℕ) (whole : Bool) (u : UnderWay T) (o : RequestOutcome) (old now new : H) (s : ServeStep) (text : List ℕ)
+    pub under_does : (seen low : List ℕ) (eof : Bool) (u : UnderWay T) (o : RequestOutcome) (old now new : H) (s : ServeStep) (text : List ℕ)
         → low ≡ take head_limit seen → (w : IsUnderWay site among rests seen u old now) → rests now u.task o new
-        → ((h : RequestHead) → IsAskedBy low u.asked h → Sends tells before h o u.asked.head.len s text after) → DoesStep site among tells old before seen whole s text new after
-    under_does seen low whole u o old now new s text is w rest sends =
+        → ((h : RequestHead) → IsAskedBy low u.asked h → Sends tells before h o u.asked.head.len s text after) → DoesStep site among tells old before seen eof s text new after
+    under_does seen low eof u o old now new s text is w rest sends =
         let by = subst (λ (l : List ℕ). IsAskedBy l u.asked w.head) (sym is) w.asked in
-        does_so low seen whole u.asked w.head o old new s text by w.begins w.fits (comes_so w.head w.asks.file o old new w.asks.allowed w.asks.named (w.asks.goes o new rest)) (sends w.head by)
+        does_so low seen eof u.asked w.head o old new s text by w.begins w.fits (comes_so w.head w.asks.file o old new w.asks.allowed w.asks.named (w.asks.goes o new rest)) (sends w.head by)
 
     -- a slice, from what it was made of
-    pub stepped_ok : (did : Result (StepSlice T) FrontKind) (y x : StepSlice T) (hand took : Option (UnderWay T)) (now new : H) (seen low : List ℕ) (whole : Bool) (text pend : List ℕ)
-        → did ≡ Ok y → y ≡ x → took ≡ hand → low ≡ seen → pend ≡ text → IfOk did (λ z. StepsFrom site among rests tells took now before low whole z text new after)
-        → StepsFrom site among rests tells hand now before seen whole x pend new after
-    stepped_ok did y x hand took now new seen low whole text pend is same taken front left s =
-        subst (λ (z : StepSlice T). StepsFrom site among rests tells hand now before seen whole z pend new after) same
-        (subst (λ (h : Option (UnderWay T)). StepsFrom site among rests tells h now before seen whole y pend new after) taken
-        (subst (λ (l : List ℕ). StepsFrom site among rests tells took now before l whole y pend new after) front
-        (subst (λ (l : List ℕ). StepsFrom site among rests tells took now before low whole y l new after) (sym left)
-        (subst (λ (r : Result (StepSlice T) FrontKind). IfOk r (λ z. StepsFrom site among rests tells took now before low whole z text new after)) is s))))
+    pub stepped_ok : (did : Result (StepSlice T) FrontKind) (y x : StepSlice T) (hand took : Option (UnderWay T)) (now new : H) (seen low : List ℕ) (eof : Bool) (text pend : List ℕ)
+        → did ≡ Ok y → y ≡ x → took ≡ hand → low ≡ seen → pend ≡ text → IfOk did (λ z. StepsFrom site among rests tells took now before low eof z text new after)
+        → StepsFrom site among rests tells hand now before seen eof x pend new after
+    stepped_ok did y x hand took now new seen low eof text pend is same taken front left s =
+        subst (λ (z : StepSlice T). StepsFrom site among rests tells hand now before seen eof z pend new after) same
+        (subst (λ (h : Option (UnderWay T)). StepsFrom site among rests tells h now before seen eof y pend new after) taken
+        (subst (λ (l : List ℕ). StepsFrom site among rests tells took now before l eof y pend new after) front
+        (subst (λ (l : List ℕ). StepsFrom site among rests tells took now before low eof y l new after) (sym left)
+        (subst (λ (r : Result (StepSlice T) FrontKind). IfOk r (λ z. StepsFrom site among rests tells took now before low eof z text new after)) is s))))
 
     -- a request was in hand
-    pub steps_some : (hand : Option (UnderWay T)) (u : UnderWay T) (now new : H) (seen : List ℕ) (whole : Bool) (x : StepSlice T) (text : List ℕ) → hand ≡ Some u
-        → ((old : H) → IsUnderWay site among rests seen u old now → StepMade site among rests tells old before seen whole x text new after)
-        → StepsFrom site among rests tells hand now before seen whole x text new after
-    steps_some hand u now new seen whole x text is says = subst (λ (h : Option (UnderWay T)). StepsFrom site among rests tells h now before seen whole x text new after) (sym is) says
+    pub steps_some : (hand : Option (UnderWay T)) (u : UnderWay T) (now new : H) (seen : List ℕ) (eof : Bool) (x : StepSlice T) (text : List ℕ) → hand ≡ Some u
+        → ((old : H) → IsUnderWay site among rests seen u old now → StepMade site among rests tells old before seen eof x text new after)
+        → StepsFrom site among rests tells hand now before seen eof x text new after
+    steps_some hand u now new seen eof x text is says = subst (λ (h : Option (UnderWay T)). StepsFrom site among rests tells h now before seen eof x text new after) (sym is) says
 
     -- a step over a front of the bytes is one over them all
-    pub slices_front : (old new : H) (seen low : List ℕ) (whole ended : Bool) (text : List ℕ) (x : StepSlice T) → low ≡ take head_limit seen → ended ≡ (whole && nat_le (length seen) head_limit)
-        → StepMade site among rests tells old before low ended x text new after → StepMade site among rests tells old before seen whole x text new after
-    slices_front old new seen low whole ended text (slice.Did s) front over x = steps_front site among tells old new before after seen low whole ended text s front over x
-    slices_front old new seen low whole ended text (slice.Works u) front over x = (wider u (subst (λ (l : List ℕ). IsUnderWay site among rests l u old new) front x.0), x.1, x.2) where
+    pub slices_front : (old new : H) (seen low : List ℕ) (eof ended : Bool) (text : List ℕ) (x : StepSlice T) → low ≡ take head_limit seen → ended ≡ (eof && nat_le (length seen) head_limit)
+        → StepMade site among rests tells old before low ended x text new after → StepMade site among rests tells old before seen eof x text new after
+    slices_front old new seen low eof ended text (slice.Did s) front over x = steps_front site among tells old new before after seen low eof ended text s front over x
+    slices_front old new seen low eof ended text (slice.Works u) front over x = (wider u (subst (λ (l : List ℕ). IsUnderWay site among rests l u old new) front x.0), x.1, x.2) where
       wider : (u : UnderWay T) → IsUnderWay site among rests (take head_limit seen) u old new → IsUnderWay site among rests seen u old new
       wider u w = record {
         head = w.head;

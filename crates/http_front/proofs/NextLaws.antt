@@ -60,31 +60,31 @@ module _ {T : Type 0} where
 module _ {H K T : Type 0} (site : Site) (handles : H → Method → List ℕ → RequestOutcome → H → Type 0) (rests : H → T → RequestOutcome → H → Type 0)
     (tells : K → Said → K → Type 0) (never : T → ⊥) where
   -- a slice is a step, where nothing is ever under way
-  pub slice_step : (hand : Option (UnderWay T)) (x : StepSlice T) (c d : HttpConn T) (seen : List ℕ) (whole : Bool) (mid new : H) (then after : K) (text : List ℕ)
-      → StepsFrom site handles rests tells hand mid then seen whole x text new after → SliceLands x c d
-      → (s : ServeStep) × DoesStep site handles tells mid then seen whole s text new after × StepFollows s c d
-  slice_step None (slice.Did s) c d seen whole mid new then after text did lands = (s, did, lands.0)
-  slice_step None (slice.Works u) c d seen whole mid new then after text did lands = absurd (never u.task)
-  slice_step (Some u) x c d seen whole mid new then after text did lands = absurd (never u.task)
+  pub slice_step : (hand : Option (UnderWay T)) (x : StepSlice T) (c d : HttpConn T) (seen : List ℕ) (eof : Bool) (mid new : H) (then after : K) (text : List ℕ)
+      → StepsFrom site handles rests tells hand mid then seen eof x text new after → SliceLands x c d
+      → (s : ServeStep) × DoesStep site handles tells mid then seen eof s text new after × StepFollows s c d
+  slice_step None (slice.Did s) c d seen eof mid new then after text did lands = (s, did, lands.0)
+  slice_step None (slice.Works u) c d seen eof mid new then after text did lands = absurd (never u.task)
+  slice_step (Some u) x c d seen eof mid new then after text did lands = absurd (never u.task)
 
 module _ {H T : Type 0} (site : Site) (lacks : H → Method → List ℕ → FrontKind → H → Type 0) (lacks_rest : H → T → FrontKind → H → Type 0) (never : T → ⊥) where
-  pub slice_lacks : (hand : Option (UnderWay T)) (old new : H) (seen : List ℕ) (whole : Bool) (e : FrontKind)
-      → LacksSlice site lacks lacks_rest hand old seen whole new e → LacksAnswer site lacks old seen whole new e
-  slice_lacks None old new seen whole e lack = lack
-  slice_lacks (Some u) old new seen whole e lack = absurd (never u.task)
+  pub slice_lacks : (hand : Option (UnderWay T)) (old new : H) (seen : List ℕ) (eof : Bool) (e : FrontKind)
+      → LacksSlice site lacks lacks_rest hand old seen eof new e → LacksAnswer site lacks old seen eof new e
+  slice_lacks None old new seen eof e lack = lack
+  slice_lacks (Some u) old new seen eof e lack = absurd (never u.task)
 
 module _ {H K : Type 0} (site : Site) (handles : H → Method → List ℕ → RequestOutcome → H → Type 0) (tells : K → Said → K → Type 0) where
   -- the size of a request that is answered
-  pub stays_some : (s : ServeStep) (seen : List ℕ) (whole : Bool) (mid new : H) (then after : K) (text : List ℕ)
-      → DoesStep site handles tells mid then seen whole s text new after → (size : ℕ) → s ≡ step.Stays size → (0 < size) × (size ≤ length seen)
-  stays_some s seen whole mid new then after text did size is =
-      let x = subst (λ (y : ServeStep). DoesStep site handles tells mid then seen whole y text new after) is did in
+  pub stays_some : (s : ServeStep) (seen : List ℕ) (eof : Bool) (mid new : H) (then after : K) (text : List ℕ)
+      → DoesStep site handles tells mid then seen eof s text new after → (size : ℕ) → s ≡ step.Stays size → (0 < size) × (size ≤ length seen)
+  stays_some s seen eof mid new then after text did size is =
+      let x = subst (λ (y : ServeStep). DoesStep site handles tells mid then seen eof y text new after) is did in
       (x.some, x.fits)
 
   module _ {T : Type 0} (c d : HttpConn T) (mid new : H) (then after : K) (text : List ℕ) where
     -- more bytes are wanted
-    pub wants_more : (s : ServeStep) → c.needs_input ≡ false → DoesStep site handles tells mid then (unread c.read_buffer) c.whole s text new after → StepFollows s c d
-        → d.needs_input ≡ true → (c.whole ≡ false) × WantsMore (unread d.read_buffer)
+    pub wants_more : (s : ServeStep) → c.needs_input ≡ false → DoesStep site handles tells mid then (unread c.read_buffer) c.eof s text new after → StepFollows s c d
+        → d.needs_input ≡ true → (c.eof ≡ false) × WantsMore (unread d.read_buffer)
     wants_more (step.Stays size) ready did f needs_input = absurd (cc)
     wants_more (step.Closes size) ready did f needs_input = absurd (cc)
     wants_more step.Refused ready did f needs_input = absurd (cc)
@@ -92,7 +92,7 @@ module _ {H K : Type 0} (site : Site) (handles : H → Method → List ℕ → R
     wants_more step.Done ready did f needs_input = absurd (cc)
 
     -- no more requests than bytes
-    pub step_few : (s : ServeStep) → c.requests + length (unread c.read_buffer) < 2 ^ 63 → DoesStep site handles tells mid then (unread c.read_buffer) c.whole s text new after → StepFollows s c d → d.over ≡ false
+    pub step_few : (s : ServeStep) → c.requests + length (unread c.read_buffer) < 2 ^ 63 → DoesStep site handles tells mid then (unread c.read_buffer) c.eof s text new after → StepFollows s c d → d.over ≡ false
         → d.requests + length (unread d.read_buffer) ≤ c.requests + length (unread c.read_buffer)
     step_few (step.Stays size) few did f going =
         omega (arith, ap length f.still ∙ length-drop size (unread c.read_buffer), counts c.requests (length (unread c.read_buffer)) d.requests few f.counted, did.some, did.fits)
@@ -101,7 +101,7 @@ module _ {H K : Type 0} (site : Site) (handles : H → Method → List ℕ → R
     step_few step.More few did f going = let left = ap length f.still in let count = f.counted in omega (arith, left, count)
     step_few step.Done few did f going = absurd (cc)
 
-    module _ (old : H) (before : K) (r q w v u : Option (List ℕ)) (so : ServedSoFar site handles tells old before r q w v (unread c.read_buffer) c.requests mid then) (end : c.whole ≡ true → IsAtEnd q) where
+    module _ (old : H) (before : K) (r q w v u : Option (List ℕ)) (so : ServedSoFar site handles tells old before r q w v (unread c.read_buffer) c.requests mid then) (end : c.eof ≡ true → IsAtEnd q) where
       -- nothing is answered
       still_far : (left : List ℕ) (m : ℕ) → new ≡ mid → after ≡ then → text ≡ [] → Appends v u text → left ≡ unread c.read_buffer → m ≡ c.requests
           → ServedSoFar site handles tells old before r q w u left m new after
@@ -121,7 +121,7 @@ module _ {H K : Type 0} (site : Site) (handles : H → Method → List ℕ → R
 
       -- all of the text is written
       pub goes_well : (s : ServeStep) → c.requests + length (unread c.read_buffer) < 2 ^ 63
-          → DoesStep site handles tells mid then (unread c.read_buffer) c.whole s text new after → StepFollows s c d → Appends v u text
+          → DoesStep site handles tells mid then (unread c.read_buffer) c.eof s text new after → StepFollows s c d → Appends v u text
           → ServeStanding site handles tells old before r q w u d.over (unread d.read_buffer) d.requests new after
       goes_well (step.Stays size) few did f wrote =
           rw f.over (far_stays site handles tells old before r q w v u (unread c.read_buffer) (unread d.read_buffer) c.requests d.requests size mid new then after text so did
@@ -130,7 +130,7 @@ module _ {H K : Type 0} (site : Site) (handles : H → Method → List ℕ → R
           rw f.over (far_closes site handles tells old before r q w v u (unread c.read_buffer) c.requests d.requests size mid new then after text so did wrote
           (counts c.requests (length (unread c.read_buffer)) d.requests few f.counted))
       goes_well step.Refused few did f wrote =
-          rw f.over (far_refused site handles tells old before r q w v u (unread c.read_buffer) c.whole c.requests d.requests mid new then after text so end did wrote
+          rw f.over (far_refused site handles tells old before r q w v u (unread c.read_buffer) c.eof c.requests d.requests mid new then after text so end did wrote
           (counts c.requests (length (unread c.read_buffer)) d.requests few f.counted))
       goes_well step.More few did f wrote = rw f.over (still_far (unread d.read_buffer) d.requests did.2.same did.2.still did.2.none wrote f.still f.counted)
       goes_well step.Done few did f wrote =
@@ -138,18 +138,18 @@ module _ {H K : Type 0} (site : Site) (handles : H → Method → List ℕ → R
           (still_far (unread d.read_buffer) d.requests did.2.same did.2.still did.2.none wrote f.still f.counted) (f.still ∙ did.1) (end did.0))
 
       -- a front of it is
-      pub goes_cut : (s : ServeStep) → DoesStep site handles tells mid then (unread c.read_buffer) c.whole s text new after → AppendsFront v u text
+      pub goes_cut : (s : ServeStep) → DoesStep site handles tells mid then (unread c.read_buffer) c.eof s text new after → AppendsFront v u text
           → Writes r w u (λ stream text. IsCut site handles tells old before stream text new after)
       goes_cut (step.Stays size) did (k, below, wrote) = cut_stays site handles tells old before r q w v u (unread c.read_buffer) c.requests size k mid new then after text so did below wrote
       goes_cut (step.Closes size) did (k, below, wrote) = cut_closes site handles tells old before r q w v u (unread c.read_buffer) c.requests size k mid new then after text so did below wrote
-      goes_cut step.Refused did (k, below, wrote) = cut_refused site handles tells old before r q w v u (unread c.read_buffer) c.whole c.requests k mid new then after text so end did below wrote
+      goes_cut step.Refused did (k, below, wrote) = cut_refused site handles tells old before r q w v u (unread c.read_buffer) c.eof c.requests k mid new then after text so end did below wrote
       goes_cut step.More did (k, below, wrote) = let none = ap length did.2.none in absurd (omega (arith, below, none))
       goes_cut step.Done did (k, below, wrote) = let none = ap length did.2.none in absurd (omega (arith, below, none))
 
       -- it is put so; put: the connection once it is
       pub goes_put : {A : Type 0} (lacks : H → Method → List ℕ → FrontKind → H → Type 0) (put : HttpConn T) (s : ServeStep) (result : Result A FrontKind)
           → c.requests + length (unread c.read_buffer) < 2 ^ 63
-          → DoesStep site handles tells mid then (unread c.read_buffer) c.whole s text new after → StepFollows s c d → put.over ≡ d.over → put.read_buffer ≡ d.read_buffer → put.requests ≡ d.requests
+          → DoesStep site handles tells mid then (unread c.read_buffer) c.eof s text new after → StepFollows s c d → put.over ≡ d.over → put.read_buffer ≡ d.read_buffer → put.requests ≡ d.requests
           → IfOk result (λ x. Appends v u text) → IfErr result (λ e. IsSinkKind e × AppendsFront v u text)
           → ServeGoes site handles tells lacks old before r q w u put.over (unread put.read_buffer) put.requests new after result
       goes_put lacks put s (Ok x) few did f over read_buffer count wrote failed = rw (over, read_buffer, count) (goes_well s few did f wrote)
@@ -164,5 +164,5 @@ module _ {A T : Type 0} (r : Result A FrontKind) (c d put : HttpConn T) (over : 
       → OnOk r (put.over ≡ false → put.requests + length (unread put.read_buffer) ≤ c.requests + length (unread c.read_buffer))
   few_put few = on_ok r (λ going. rw (read_buffer, count) (few (sym over ∙ going)))
 
-  pub wants_put : (d.needs_input ≡ true → (c.whole ≡ false) × WantsMore (unread d.read_buffer)) → OnOk r (put.needs_input ≡ true → (c.whole ≡ false) × WantsMore (unread put.read_buffer))
+  pub wants_put : (d.needs_input ≡ true → (c.eof ≡ false) × WantsMore (unread d.read_buffer)) → OnOk r (put.needs_input ≡ true → (c.eof ≡ false) × WantsMore (unread put.read_buffer))
   wants_put more = on_ok r (λ is. rw read_buffer (more (sym needs_input ∙ is)))

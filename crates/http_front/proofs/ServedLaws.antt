@@ -13,9 +13,9 @@ use Rattle.std.specs.Prelude.{Bool}
 
 module _ {H K : Type 0} (site : Site) (handles : H → Method → List ℕ → RequestOutcome → H → Type 0) (tells : K → Said → K → Type 0) (lacks : H → Method → List ℕ → FrontKind → H → Type 0) where
   -- bytes are added to those at hand
-  pub far_adds : (old : H) (before : K) (r q p w v : Option (List ℕ)) (unread all : List ℕ) (limit : ℕ) (whole : Bool) (n m : ℕ) (new : H) (after : K)
-      → m ≡ n → ServedSoFar site handles tells old before r q w v unread n new after → AddsBytes q p unread all limit whole → ServedSoFar site handles tells old before r p w v all m new after
-  far_adds old before r q p w v unread all limit whole n m new after same so adds =
+  pub far_adds : (old : H) (before : K) (r q p w v : Option (List ℕ)) (unread all : List ℕ) (limit : ℕ) (eof : Bool) (n m : ℕ) (new : H) (after : K)
+      → m ≡ n → ServedSoFar site handles tells old before r q w v unread n new after → AddsBytes q p unread all limit eof → ServedSoFar site handles tells old before r p w v all m new after
+  far_adds old before r q p w v unread all limit eof n m new after same so adds =
       subst (λ k. ServedSoFar site handles tells old before r p w v all k new after) (sym same)
       (far_read site handles tells old before r q p w v unread adds.bytes all n new after so adds.took adds.added)
 

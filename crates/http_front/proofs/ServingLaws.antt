@@ -34,9 +34,9 @@ count_more : (turns : List Turn) (t : Turn) (n : ℕ) → n ≡ length turns →
 count_more turns t n count = ap (λ k. k + 1) count ∙ sym (length-append turns (t ∷ []))
 
 -- the answer that is wanted is due
-is_due : (seen left : List ℕ) (whole : Bool) → (whole ≡ true → left ≡ []) → WantsAnswer seen whole → IsDue seen left
-is_due seen left whole over (inl begins) = inl begins
-is_due seen left whole over (inr bad) = inr (bad.0, whole, over, bad.1)
+is_due : (seen left : List ℕ) (eof : Bool) → (eof ≡ true → left ≡ []) → WantsAnswer seen eof → IsDue seen left
+is_due seen left eof over (inl begins) = inl begins
+is_due seen left eof over (inr bad) = inr (bad.0, eof, over, bad.1)
 
 -- What a reader had left, where it is known, is what was taken and what it has.
 abbrev pub WasLeft : List ℕ → Option (List ℕ) → List ℕ → Type 0
@@ -218,16 +218,16 @@ module _ {H K : Type 0} (site : Site) (handles : H → Method → List ℕ → R
 
   -- What follows begins with no head.
   abbrev pub Bad : H → K → List ℕ → Bool → List ℕ → H → K → Type 0
-  Bad mid then unread whole text new after = ¬ (unread ≡ []) × StaysHeadless head_limit fields_limit unread whole × (new ≡ mid) × SendsBad site handles tells then text after
+  Bad mid then unread eof text new after = ¬ (unread ≡ []) × StaysHeadless head_limit fields_limit unread eof × (new ≡ mid) × SendsBad site handles tells then text after
 
   some_left : (unread rest : List ℕ) → ¬ (unread ≡ []) → ¬ (unread ++ rest ≡ [])
   some_left [] rest some = λ _. some refl
   some_left (x ∷ unread) rest some = λ h. cc
 
-  refused : (old : H) (before : K) (stream : List ℕ) (q w v : Option (List ℕ)) (unread : List ℕ) (whole : Bool) (n m : ℕ) (mid new : H) (then after : K) (text : List ℕ)
-      → (so : Far old before (Some stream) q w v unread n mid then) → (whole ≡ true → IsAtEnd q) → Bad mid then unread whole text new after → m ≡ n + 1
+  refused : (old : H) (before : K) (stream : List ℕ) (q w v : Option (List ℕ)) (unread : List ℕ) (eof : Bool) (n m : ℕ) (mid new : H) (then after : K) (text : List ℕ)
+      → (so : Far old before (Some stream) q w v unread n mid then) → (eof ≡ true → IsAtEnd q) → Bad mid then unread eof text new after → m ≡ n + 1
       → RefusesAfter site handles tells old before stream (texts_of so.turns ++ text) m new after
-  refused old before stream q w v unread whole n m mid new then after text so end bad more =
+  refused old before stream q w v unread eof n m mid new then after text so end bad more =
       let left = left_of stream (heads_of so.turns ++ unread) q so.took in
       record {
         turns = so.turns;
@@ -244,12 +244,12 @@ module _ {H K : Type 0} (site : Site) (handles : H → Method → List ℕ → R
         count = more ∙ ap (λ k. k + 1) so.count;
       }
 
-  pub far_refused : (old : H) (before : K) (r q w v u : Option (List ℕ)) (unread : List ℕ) (whole : Bool) (n m : ℕ) (mid new : H) (then after : K) (text : List ℕ)
-      → Far old before r q w v unread n mid then → (whole ≡ true → IsAtEnd q) → Bad mid then unread whole text new after
+  pub far_refused : (old : H) (before : K) (r q w v u : Option (List ℕ)) (unread : List ℕ) (eof : Bool) (n m : ℕ) (mid new : H) (then after : K) (text : List ℕ)
+      → Far old before r q w v unread n mid then → (eof ≡ true → IsAtEnd q) → Bad mid then unread eof text new after
       → Appends v u text → m ≡ n + 1 → EndsWell site handles tells old before r w u m new after
-  far_refused old before None q w v u unread whole n m mid new then after text so end bad wrote more = tt
-  far_refused old before (Some stream) q w v u unread whole n m mid new then after text so end bad wrote more =
-      (texts_of so.turns ++ text, inr (inr (refused old before stream q w v unread whole n m mid new then after text so end bad more)), Appends-trans w v u (texts_of so.turns) text so.wrote wrote)
+  far_refused old before None q w v u unread eof n m mid new then after text so end bad wrote more = tt
+  far_refused old before (Some stream) q w v u unread eof n m mid new then after text so end bad wrote more =
+      (texts_of so.turns ++ text, inr (inr (refused old before stream q w v unread eof n m mid new then after text so end bad more)), Appends-trans w v u (texts_of so.turns) text so.wrote wrote)
 
   -- The writer failed: a front of the response is written.
 
@@ -295,13 +295,13 @@ module _ {H K : Type 0} (site : Site) (handles : H → Method → List ℕ → R
   cut_closes old before (Some stream) q w v u unread n size k mid new then after text so serves few wrote =
       cut_of old before q w v u stream unread n k mid new then after text so (inr (inr (inl (closed old before stream q w v unread n (n + 1) size mid new then after text so serves refl)))) few wrote
 
-  pub cut_refused : (old : H) (before : K) (r q w v u : Option (List ℕ)) (unread : List ℕ) (whole : Bool) (n k : ℕ) (mid new : H) (then after : K) (text : List ℕ)
-      → Far old before r q w v unread n mid then → (whole ≡ true → IsAtEnd q) → Bad mid then unread whole text new after
+  pub cut_refused : (old : H) (before : K) (r q w v u : Option (List ℕ)) (unread : List ℕ) (eof : Bool) (n k : ℕ) (mid new : H) (then after : K) (text : List ℕ)
+      → Far old before r q w v unread n mid then → (eof ≡ true → IsAtEnd q) → Bad mid then unread eof text new after
       → k < length text → Appends v u (take k text) → Writes r w u (λ stream text. IsCut site handles tells old before stream text new after)
-  cut_refused old before None q w v u unread whole n k mid new then after text so end bad few wrote = tt
-  cut_refused old before (Some stream) q w v u unread whole n k mid new then after text so end bad few wrote =
+  cut_refused old before None q w v u unread eof n k mid new then after text so end bad few wrote = tt
+  cut_refused old before (Some stream) q w v u unread eof n k mid new then after text so end bad few wrote =
       cut_of old before q w v u stream unread n k mid new then after text so
-      (inr (inr (inr (refused old before stream q w v unread whole n (n + 1) mid new then after text so end bad refl)))) few wrote
+      (inr (inr (inr (refused old before stream q w v unread eof n (n + 1) mid new then after text so end bad refl)))) few wrote
 
   -- Memory or names are lacking, as the kind of the fault says.
   module _ (lacks : H → Method → List ℕ → FrontKind → H → Type 0) where
@@ -311,13 +311,13 @@ module _ {H K : Type 0} (site : Site) (handles : H → Method → List ℕ → R
     lack_memory None q w v old before new after h = tt
     lack_memory (Some stream) q w v old before new after h = (h.0, inl h.1, h.2)
 
-    pub far_lacks_by : (old : H) (before : K) (r q w v : Option (List ℕ)) (unread : List ℕ) (whole : Bool) (n : ℕ) (mid new : H) (then after : K) (e : FrontKind)
-        → Far old before r q w v unread n mid then → (whole ≡ true → IsAtEnd q) → LacksAnswer site lacks mid unread whole new e → FailsBy site handles tells lacks old before r q w v new after e
-    far_lacks_by old before r q w v unread whole n mid new then after kind.NoMemory so end needs_input =
-        lack_memory r q w v old before new after (far_lacks (λ m. IsDue) old before r q w v unread n mid then so (λ left leaves. is_due unread left whole (λ is. at_end q left leaves (end is)) needs_input))
-    far_lacks_by old before r q w v unread whole n mid new then after kind.NamesSpent so end needs_input =
+    pub far_lacks_by : (old : H) (before : K) (r q w v : Option (List ℕ)) (unread : List ℕ) (eof : Bool) (n : ℕ) (mid new : H) (then after : K) (e : FrontKind)
+        → Far old before r q w v unread n mid then → (eof ≡ true → IsAtEnd q) → LacksAnswer site lacks mid unread eof new e → FailsBy site handles tells lacks old before r q w v new after e
+    far_lacks_by old before r q w v unread eof n mid new then after kind.NoMemory so end needs_input =
+        lack_memory r q w v old before new after (far_lacks (λ m. IsDue) old before r q w v unread n mid then so (λ left leaves. is_due unread left eof (λ is. at_end q left leaves (end is)) needs_input))
+    far_lacks_by old before r q w v unread eof n mid new then after kind.NamesSpent so end needs_input =
         far_lacks (λ m seen left. LacksFile site lacks m seen new) old before r q w v unread n mid then so (λ left leaves. needs_input)
-    far_lacks_by old before r q w v unread whole n mid new then after e so end lack = absurd lack
+    far_lacks_by old before r q w v unread eof n mid new then after e so end lack = absurd lack
 
     -- The sink fails, or lacks memory.
     cut_lacks : (r q w v : Option (List ℕ)) (old : H) (before : K) (new : H) (after : K)

@@ -123,10 +123,10 @@ module _ {H K : Type 0} (site : Site) (among : H → Method → List ℕ → Req
     })),
   )
 
-  so_refused : (text seen t : List ℕ) (whole : Bool) (mid : H) (then after : K) → IsOpenSo site among tells start first came text seen mid then → ¬ (seen ≡ [])
-      → StaysHeadless head_limit fields_limit seen whole → SendsBad site among tells then t after
+  so_refused : (text seen t : List ℕ) (eof : Bool) (mid : H) (then after : K) → IsOpenSo site among tells start first came text seen mid then → ¬ (seen ≡ [])
+      → StaysHeadless head_limit fields_limit seen eof → SendsBad site among tells then t after
       → (n : ℕ) × Responses site among tells start first came (text ++ t) n mid after
-  so_refused text seen t whole mid then after so some never bad = (
+  so_refused text seen t eof mid then after so some never bad = (
     length so.turns + 1,
     inr (inr (record {
       turns = so.turns;
@@ -280,7 +280,7 @@ module _ {H K T : Type 0} (site : Site) (among : H → Method → List ℕ → R
 
     -- the step was made from this state of the handler on: it is apart from that of the last answer
     module _ (from : H) (gap : apart s.mid from) (idle : new.hand ≡ None) where
-      stands_step : (st : ServeStep) → DoesStep site among tells from at (unread old.read_buffer) old.whole st (pending new) to after → StepFollows st old new → StandsHere came went new to after
+      stands_step : (st : ServeStep) → DoesStep site among tells from at (unread old.read_buffer) old.eof st (pending new) to after → StepFollows st old new → StandsHere came went new to after
       stands_step (step.Stays size) did f =
           let l = serves_later site among tells apart same later (unread old.read_buffer) false size (pending new) s.mid from to s.then at after gap s.passed did in
           behind false (drop size (unread old.read_buffer)) l.0 after f.over f.still idle (so_stays site among (TellsLater tells) start first came went (unread old.read_buffer) (drop size (unread old.read_buffer))
@@ -291,7 +291,7 @@ module _ {H K T : Type 0} (site : Site) (among : H → Method → List ℕ → R
           (so_closes site among (TellsLater tells) start first came went (unread old.read_buffer) (pending new) size s.mid l.0 s.then after here l.1) l.2 (passes_none tells after)
       stands_step step.Refused did f =
           behind true (unread old.read_buffer) s.mid after f.over f.still idle
-          (so_refused site among (TellsLater tells) start first came went (unread old.read_buffer) (pending new) old.whole s.mid s.then after here did.0 did.1
+          (so_refused site among (TellsLater tells) start first came went (unread old.read_buffer) (pending new) old.eof s.mid s.then after here did.0 did.1
           (bad_later site among tells apart same later (pending new) s.then at after s.passed did.3)) (subst (λ (x : H). apart s.mid x) (sym did.2) gap) (passes_none tells after)
       stands_step step.More did f =
           behind false (unread old.read_buffer) s.mid s.then f.over f.still idle
@@ -326,13 +326,13 @@ module _ {H K T : Type 0} (site : Site) (among : H → Method → List ℕ → R
     }
 
     lands : (hand : Option (UnderWay T)) (x : StepSlice T) → HandOver came went hand (unread old.read_buffer) s.mid now
-        → StepsFrom site among rests tells hand now at (unread old.read_buffer) old.whole x (pending new) to after → SliceLands x old new → StandsHere came went new to after
+        → StepsFrom site among rests tells hand now at (unread old.read_buffer) old.eof x (pending new) to after → SliceLands x old new → StandsHere came went new to after
     lands None (slice.Did st) gap did l = stands_step now gap l.1 st did l.0
     lands None (slice.Works u) gap did l = stands_works u (under_later u gap did.0) did.1 did.2 l.0.still l.0.over l.1
     lands (Some v) (slice.Did st) way did l = stands_step s.mid (same s.mid) l.1 st (did s.mid way) l.0
     lands (Some v) (slice.Works u) way did l = (let d = did s.mid way in stands_works u d.0 d.1 d.2 l.0.still l.0.over l.1)
 
-    pub stands_lands : (x : StepSlice T) → StepsFrom site among rests tells old.hand now at (unread old.read_buffer) old.whole x (pending new) to after → SliceLands x old new
+    pub stands_lands : (x : StepSlice T) → StepsFrom site among rests tells old.hand now at (unread old.read_buffer) old.eof x (pending new) to after → SliceLands x old new
         → StandsHere came went new to after
     stands_lands x did l = lands old.hand x s.hand did l
 
@@ -381,7 +381,7 @@ module _ {H K T : Type 0} (site : Site) (among : H → Method → List ℕ → R
       (cut_read site among rests tells apart start first came went bytes old now at was s)
 
   pub own_step : (r : Result Turned FrontKind) (old new : HttpConn T) (now to : H) (at after : K) → pending old ≡ [] → old.over ≡ false
-      → OnOk r ((x : StepSlice T) × StepsFrom site among rests tells old.hand now at (unread old.read_buffer) old.whole x (pending new) to after × SliceLands x old new) → Own now at old [] [] r new to after
+      → OnOk r ((x : StepSlice T) × StepsFrom site among rests tells old.hand now at (unread old.read_buffer) old.eof x (pending new) to after × SliceLands x old new) → Own now at old [] [] r new to after
   own_step (Ok t) old new now to at after none was did start first came went s =
       goes_as start first came (came ++ []) went (went ++ []) (Ok t) new to after (sym (append-nil came)) (sym (append-nil went))
       (stands_lands site among rests tells apart start first same later came went old new now to at after none was s did.0 did.1 did.2)

@@ -73,18 +73,18 @@ begins_wider limit room seen h size fits begins =
     }
 
 -- nothing lies behind the front
-nothing_more : (limit : ℕ) (seen more : List ℕ) (whole : Bool) → (whole ≡ true → more ≡ []) → (whole && nat_le (length seen) limit) ≡ true
+nothing_more : (limit : ℕ) (seen more : List ℕ) (eof : Bool) → (eof ≡ true → more ≡ []) → (eof && nat_le (length seen) limit) ≡ true
     → drop limit seen ++ more ≡ []
 nothing_more limit seen more true over is = ap (λ x. x ++ more) (drop_all limit seen (leb-true (length seen) limit is)) ∙ over refl
 nothing_more limit seen more false over is = cc
 
 -- what a front of the bytes never becomes
-headless_wider : (limit : ℕ) (room : ℕ) (seen : List ℕ) (whole : Bool)
-    → StaysHeadless limit room (take limit seen) (whole && nat_le (length seen) limit) → StaysHeadless limit room seen whole
-headless_wider limit room seen whole never more over h rest begins =
+headless_wider : (limit : ℕ) (room : ℕ) (seen : List ℕ) (eof : Bool)
+    → StaysHeadless limit room (take limit seen) (eof && nat_le (length seen) limit) → StaysHeadless limit room seen eof
+headless_wider limit room seen eof never more over h rest begins =
     let same : seen ++ more ≡ take limit seen ++ (drop limit seen ++ more) =
     ap (λ x. x ++ more) (sym (take-append-drop limit seen)) ∙ append_assoc (take limit seen) (drop limit seen) more in
-    never (drop limit seen ++ more) (nothing_more limit seen more whole over) h rest (subst (λ x. BeginsWithin limit room x h rest) same begins)
+    never (drop limit seen ++ more) (nothing_more limit seen more eof over) h rest (subst (λ x. BeginsWithin limit room x h rest) same begins)
 
 pub so_not : {b : Bool} → b ≡ false → b ≡ true → ⊥
 so_not fails holds = cc
@@ -97,8 +97,8 @@ not_empty [] test none = so_not (sym test) refl
 not_empty (x ∷ xs) test none = cc
 
 -- more bytes come, and there is room for them
-more_wider : (seen : List ℕ) (whole : Bool) → (whole && nat_le (length seen) head_limit) ≡ false → WantsMore (take head_limit seen)
-    → (whole ≡ false) × WantsMore seen
+more_wider : (seen : List ℕ) (eof : Bool) → (eof && nat_le (length seen) head_limit) ≡ false → WantsMore (take head_limit seen)
+    → (eof ≡ false) × WantsMore seen
 more_wider seen true is needs_input =
     let fits : length seen ≤ head_limit = omega (arith, needs_input.few, length-take head_limit seen) in
     let yes = le-leb (length seen) head_limit fits in
@@ -116,44 +116,44 @@ begins_before seen h rest begins =
     record { reads = (begins.reads.0, all); size = begins.size; count = begins.count }
 
 -- an answer that is wanted to a front of the bytes is wanted to them all
-answer_wider : (seen : List ℕ) (whole : Bool) → WantsAnswer (take head_limit seen) (whole && nat_le (length seen) head_limit) → WantsAnswer seen whole
-answer_wider seen whole (inl (h, rest, begins)) = inl (h, rest ++ drop head_limit seen, begins_before seen h rest begins)
-answer_wider seen whole (inr bad) = inr ((λ none. bad.0 (ap (take head_limit) none)), headless_wider head_limit fields_limit seen whole bad.1)
+answer_wider : (seen : List ℕ) (eof : Bool) → WantsAnswer (take head_limit seen) (eof && nat_le (length seen) head_limit) → WantsAnswer seen eof
+answer_wider seen eof (inl (h, rest, begins)) = inl (h, rest ++ drop head_limit seen, begins_before seen h rest begins)
+answer_wider seen eof (inr bad) = inr ((λ none. bad.0 (ap (take head_limit) none)), headless_wider head_limit fields_limit seen eof bad.1)
 
 -- why a step gets no answer, from a front of the bytes
 module _ {H : Type 0} (site : Site) (lacks : H → Method → List ℕ → FrontKind → H → Type 0) (old new : H) where
-  lack_before : (seen : List ℕ) (whole : Bool) (e : FrontKind) → LacksAnswer site lacks old (take head_limit seen) (whole && nat_le (length seen) head_limit) new e
-      → LacksAnswer site lacks old seen whole new e
-  lack_before seen whole kind.NoMemory needs_input = answer_wider seen whole needs_input
-  lack_before seen whole kind.NamesSpent needs_input = record {
+  lack_before : (seen : List ℕ) (eof : Bool) (e : FrontKind) → LacksAnswer site lacks old (take head_limit seen) (eof && nat_le (length seen) head_limit) new e
+      → LacksAnswer site lacks old seen eof new e
+  lack_before seen eof kind.NoMemory needs_input = answer_wider seen eof needs_input
+  lack_before seen eof kind.NamesSpent needs_input = record {
     head = needs_input.head;
     rest = needs_input.rest ++ drop head_limit seen;
     begins = begins_before seen needs_input.head needs_input.rest needs_input.begins;
     names = needs_input.names;
   }
-  lack_before seen whole e lack = absurd lack
+  lack_before seen eof e lack = absurd lack
 
-  pub lack_wider : {A : Type 0} (seen low : List ℕ) (whole ended : Bool) (r : Result A FrontKind) → low ≡ take head_limit seen → ended ≡ (whole && nat_le (length seen) head_limit)
-      → IfErr r (LacksAnswer site lacks old low ended new) → IfErr r (LacksAnswer site lacks old seen whole new)
-  lack_wider seen low whole ended (Ok s) front over h = tt
-  lack_wider seen low whole ended (Err e) front over h =
-      lack_before seen whole e (subst (λ (l : List ℕ). LacksAnswer site lacks old l (whole && nat_le (length seen) head_limit) new e) front
+  pub lack_wider : {A : Type 0} (seen low : List ℕ) (eof ended : Bool) (r : Result A FrontKind) → low ≡ take head_limit seen → ended ≡ (eof && nat_le (length seen) head_limit)
+      → IfErr r (LacksAnswer site lacks old low ended new) → IfErr r (LacksAnswer site lacks old seen eof new)
+  lack_wider seen low eof ended (Ok s) front over h = tt
+  lack_wider seen low eof ended (Err e) front over h =
+      lack_before seen eof e (subst (λ (l : List ℕ). LacksAnswer site lacks old l (eof && nat_le (length seen) head_limit) new e) front
       (subst (λ (b : Bool). LacksAnswer site lacks old low b new e) over h))
 
   -- why a head that was found gets no answer
-  pub found_lack : {A : Type 0} (seen : List ℕ) (spans : List HeaderSpan) (whole : Bool) (head : RequestSpans) (r : Result A FrontKind)
+  pub found_lack : {A : Type 0} (seen : List ℕ) (spans : List HeaderSpan) (eof : Bool) (head : RequestSpans) (r : Result A FrontKind)
       → length spans ≡ fields_limit → IsHeadFound head_limit seen spans head
-      → IfErr r (λ e. IsLack e × (e ≡ kind.NamesSpent → (h : RequestHead) → IsRequestAt seen spans head h → LacksNamesAt lacks site old h new)) → IfErr r (LacksAnswer site lacks old seen whole new)
-  found_lack seen spans whole head (Ok s) room found lack = tt
-  found_lack seen spans whole head (Err e) room found lack =
+      → IfErr r (λ e. IsLack e × (e ≡ kind.NamesSpent → (h : RequestHead) → IsRequestAt seen spans head h → LacksNamesAt lacks site old h new)) → IfErr r (LacksAnswer site lacks old seen eof new)
+  found_lack seen spans eof head (Ok s) room found lack = tt
+  found_lack seen spans eof head (Err e) room found lack =
       let begins : BeginsWithin head_limit fields_limit seen found.0 (drop head.len seen) = subst (λ (n : ℕ). BeginsWithin head_limit n seen found.0 (drop head.len seen)) room found.2 in
       elim lack.0 [
-        | inl memory ↦ subst (LacksAnswer site lacks old seen whole new) (sym memory) (inl (found.0, drop head.len seen, begins))
-        | inr names ↦ subst (LacksAnswer site lacks old seen whole new) (sym names) (record { head = found.0; rest = drop head.len seen; begins = begins; names = lack.1 names found.0 found.1 })
+        | inl memory ↦ subst (LacksAnswer site lacks old seen eof new) (sym memory) (inl (found.0, drop head.len seen, begins))
+        | inr names ↦ subst (LacksAnswer site lacks old seen eof new) (sym names) (record { head = found.0; rest = drop head.len seen; begins = begins; names = lack.1 names found.0 found.1 })
       ]
 
-done_wider : (limit : ℕ) (seen : List ℕ) (whole : Bool) → (whole && nat_le (length seen) limit) ≡ true → take limit seen ≡ []
-    → (whole ≡ true) × (seen ≡ [])
+done_wider : (limit : ℕ) (seen : List ℕ) (eof : Bool) → (eof && nat_le (length seen) limit) ≡ true → take limit seen ≡ []
+    → (eof ≡ true) × (seen ≡ [])
 done_wider limit seen true is none = (refl, sym (take_all limit seen (leb-true (length seen) limit is)) ∙ none)
 done_wider limit seen false is none = cc
 
@@ -172,20 +172,20 @@ module _ {H K : Type 0} (site : Site) (handles : H → Method → List ℕ → R
   }
 
   -- a step over a front of the bytes is a step over them all
-  steps_wider : (old new : H) (before after : K) (seen : List ℕ) (whole : Bool) (text : List ℕ) (s : ServeStep)
-      → DoesStep site handles tells old before (take head_limit seen) (whole && nat_le (length seen) head_limit) s text new after
-      → DoesStep site handles tells old before seen whole s text new after
-  steps_wider old new before after seen whole text (step.Stays size) x = serves_wider old new before after seen false size text x
-  steps_wider old new before after seen whole text (step.Closes size) x = serves_wider old new before after seen true size text x
-  steps_wider old new before after seen whole text step.Refused x = (λ none. x.0 (ap (take head_limit) none), headless_wider head_limit fields_limit seen whole x.1, x.2, x.3)
-  steps_wider old new before after seen whole text step.More x =
-      let wider = more_wider seen whole x.0 x.1 in (wider.0, wider.1, x.2)
-  steps_wider old new before after seen whole text step.Done x =
-      let wider = done_wider head_limit seen whole x.0 x.1 in (wider.0, wider.1, x.2)
+  steps_wider : (old new : H) (before after : K) (seen : List ℕ) (eof : Bool) (text : List ℕ) (s : ServeStep)
+      → DoesStep site handles tells old before (take head_limit seen) (eof && nat_le (length seen) head_limit) s text new after
+      → DoesStep site handles tells old before seen eof s text new after
+  steps_wider old new before after seen eof text (step.Stays size) x = serves_wider old new before after seen false size text x
+  steps_wider old new before after seen eof text (step.Closes size) x = serves_wider old new before after seen true size text x
+  steps_wider old new before after seen eof text step.Refused x = (λ none. x.0 (ap (take head_limit) none), headless_wider head_limit fields_limit seen eof x.1, x.2, x.3)
+  steps_wider old new before after seen eof text step.More x =
+      let wider = more_wider seen eof x.0 x.1 in (wider.0, wider.1, x.2)
+  steps_wider old new before after seen eof text step.Done x =
+      let wider = done_wider head_limit seen eof x.0 x.1 in (wider.0, wider.1, x.2)
 
-  pub steps_front : (old new : H) (before after : K) (seen low : List ℕ) (whole ended : Bool) (text : List ℕ) (s : ServeStep)
-      → low ≡ take head_limit seen → ended ≡ (whole && nat_le (length seen) head_limit)
-      → DoesStep site handles tells old before low ended s text new after → DoesStep site handles tells old before seen whole s text new after
-  steps_front old new before after seen low whole ended text s front over x =
+  pub steps_front : (old new : H) (before after : K) (seen low : List ℕ) (eof ended : Bool) (text : List ℕ) (s : ServeStep)
+      → low ≡ take head_limit seen → ended ≡ (eof && nat_le (length seen) head_limit)
+      → DoesStep site handles tells old before low ended s text new after → DoesStep site handles tells old before seen eof s text new after
+  steps_front old new before after seen low eof ended text s front over x =
       let at_front = subst (λ (l : List ℕ). DoesStep site handles tells old before l ended s text new after) front x in
-      steps_wider old new before after seen whole text s (subst (λ (e : Bool). DoesStep site handles tells old before (take head_limit seen) e s text new after) over at_front)
+      steps_wider old new before after seen eof text s (subst (λ (e : Bool). DoesStep site handles tells old before (take head_limit seen) e s text new after) over at_front)

@@ -65,8 +65,8 @@ module _ {A E : Type 0} where
   on_err_as (Err e) P Q into h = into h
 
 -- why a slice fails
-module _ {H T : Type 0} (site : Site) (lacks : H → Method → List ℕ → FrontKind → H → Type 0) (lacks_rest : H → T → FrontKind → H → Type 0) (old new : H) (seen : List ℕ) (whole : Bool) where
-  pub slice_lack : (hand : Option (UnderWay T)) (e : FrontKind) → LacksSlice site lacks lacks_rest hand old seen whole new e → IsLack e
+module _ {H T : Type 0} (site : Site) (lacks : H → Method → List ℕ → FrontKind → H → Type 0) (lacks_rest : H → T → FrontKind → H → Type 0) (old new : H) (seen : List ℕ) (eof : Bool) where
+  pub slice_lack : (hand : Option (UnderWay T)) (e : FrontKind) → LacksSlice site lacks lacks_rest hand old seen eof new e → IsLack e
   slice_lack hand kind.NoMemory h = inl refl
   slice_lack hand kind.NamesSpent h = inr refl
   slice_lack None e h = absurd h
@@ -74,10 +74,10 @@ module _ {H T : Type 0} (site : Site) (lacks : H → Method → List ℕ → Fro
 
   -- of a request that was in hand
   pub in_hand : {A : Type 0} (hand : Option (UnderWay T)) (u : UnderWay T) (r : Result A FrontKind) → hand ≡ Some u
-      → IfErr r (λ e. IsLack e × (e ≡ kind.NamesSpent → lacks_rest old u.task e new)) → IfErr r (LacksSlice site lacks lacks_rest hand old seen whole new)
+      → IfErr r (λ e. IsLack e × (e ≡ kind.NamesSpent → lacks_rest old u.task e new)) → IfErr r (LacksSlice site lacks lacks_rest hand old seen eof new)
   in_hand hand u (Ok x) is h = tt
-  in_hand hand u (Err e) is h = subst (λ (o : Option (UnderWay T)). LacksSlice site lacks lacks_rest o old seen whole new e) (sym is) (by e h.0 h.1) where
-    by : (e : FrontKind) → IsLack e → (e ≡ kind.NamesSpent → lacks_rest old u.task e new) → LacksSlice site lacks lacks_rest (Some u) old seen whole new e
+  in_hand hand u (Err e) is h = subst (λ (o : Option (UnderWay T)). LacksSlice site lacks lacks_rest o old seen eof new e) (sym is) (by e h.0 h.1) where
+    by : (e : FrontKind) → IsLack e → (e ≡ kind.NamesSpent → lacks_rest old u.task e new) → LacksSlice site lacks lacks_rest (Some u) old seen eof new e
     by kind.NoMemory lack names = tt
     by kind.NamesSpent lack names = names refl
     by e (inl ill) names = absurd (cc)
@@ -86,15 +86,15 @@ module _ {H T : Type 0} (site : Site) (lacks : H → Method → List ℕ → Fro
   -- a text is made only where an answer is wanted
   module _ {K : Type 0} (among : H → Method → List ℕ → RequestOutcome → H → Type 0) (rests : H → T → RequestOutcome → H → Type 0) (tells : K → Said → K → Type 0)
       (before after : K) (text : List ℕ) (some : ¬ (text ≡ [])) where
-    did_wanted : (s : ServeStep) → DoesStep site among tells old before seen whole s text new after → LacksAnswer site lacks old seen whole new kind.NoMemory
+    did_wanted : (s : ServeStep) → DoesStep site among tells old before seen eof s text new after → LacksAnswer site lacks old seen eof new kind.NoMemory
     did_wanted (step.Stays size) x = inl (x.turn.head, _, x.begins)
     did_wanted (step.Closes size) x = inl (x.turn.head, _, x.begins)
     did_wanted step.Refused x = inr (x.0, x.1)
     did_wanted step.More x = absurd (some x.2.none)
     did_wanted step.Done x = absurd (some x.2.none)
 
-    pub text_wanted : (hand : Option (UnderWay T)) (x : StepSlice T) → StepsFrom site among rests tells hand old before seen whole x text new after
-        → LacksSlice site lacks lacks_rest hand old seen whole new kind.NoMemory
+    pub text_wanted : (hand : Option (UnderWay T)) (x : StepSlice T) → StepsFrom site among rests tells hand old before seen eof x text new after
+        → LacksSlice site lacks lacks_rest hand old seen eof new kind.NoMemory
     text_wanted None (slice.Did s) did = did_wanted s did
     text_wanted None (slice.Works u) did = absurd (some did.2)
     text_wanted (Some u) x did = tt
@@ -103,19 +103,19 @@ module _ {H T : Type 0} (site : Site) (lacks : H → Method → List ℕ → Fro
   module _ {K : Type 0} (among : H → Method → List ℕ → RequestOutcome → H → Type 0) (rests : H → T → RequestOutcome → H → Type 0) (tells : K → Said → K → Type 0)
       (before after : K) (text : List ℕ) where
     pub sized_lack : (hand : Option (UnderWay T)) (did : Result (StepSlice T) FrontKind) (e : FrontKind)
-        → IfOk did (λ x. StepsFrom site among rests tells hand old before seen whole x text new after) → IfErr did (LacksSlice site lacks lacks_rest hand old seen whole new)
-        → (did ≡ Err e) ⊎ ((x : StepSlice T) × (did ≡ Ok x) × (e ≡ kind.NoMemory) × ¬ (text ≡ [])) → LacksSlice site lacks lacks_rest hand old seen whole new e
-    sized_lack hand did e well ill (inl is) = subst (λ (r : Result (StepSlice T) FrontKind). IfErr r (LacksSlice site lacks lacks_rest hand old seen whole new)) is ill
+        → IfOk did (λ x. StepsFrom site among rests tells hand old before seen eof x text new after) → IfErr did (LacksSlice site lacks lacks_rest hand old seen eof new)
+        → (did ≡ Err e) ⊎ ((x : StepSlice T) × (did ≡ Ok x) × (e ≡ kind.NoMemory) × ¬ (text ≡ [])) → LacksSlice site lacks lacks_rest hand old seen eof new e
+    sized_lack hand did e well ill (inl is) = subst (λ (r : Result (StepSlice T) FrontKind). IfErr r (LacksSlice site lacks lacks_rest hand old seen eof new)) is ill
     sized_lack hand did e well ill (inr (x, is, memory, some)) =
-        let steps = subst (λ (r : Result (StepSlice T) FrontKind). IfOk r (λ y. StepsFrom site among rests tells hand old before seen whole y text new after)) is well in
-        subst (LacksSlice site lacks lacks_rest hand old seen whole new) (sym memory) (text_wanted among rests tells before after text some hand x steps)
+        let steps = subst (λ (r : Result (StepSlice T) FrontKind). IfOk r (λ y. StepsFrom site among rests tells hand old before seen eof y text new after)) is well in
+        subst (LacksSlice site lacks lacks_rest hand old seen eof new) (sym memory) (text_wanted among rests tells before after text some hand x steps)
 
 -- the same, of what was taken in hand and seen
 pub lack_as : {H T : Type 0} (site : Site) (lacks : H → Method → List ℕ → FrontKind → H → Type 0) (lacks_rest : H → T → FrontKind → H → Type 0) (old new : H)
-    (took hand : Option (UnderWay T)) (low seen : List ℕ) (whole : Bool) (e : FrontKind)
-    → took ≡ hand → low ≡ seen → LacksSlice site lacks lacks_rest took old low whole new e → LacksSlice site lacks lacks_rest hand old seen whole new e
-lack_as site lacks lacks_rest old new took hand low seen whole e taken same h =
-    subst (λ (l : List ℕ). LacksSlice site lacks lacks_rest hand old l whole new e) same (subst (λ o. LacksSlice site lacks lacks_rest o old low whole new e) taken h)
+    (took hand : Option (UnderWay T)) (low seen : List ℕ) (eof : Bool) (e : FrontKind)
+    → took ≡ hand → low ≡ seen → LacksSlice site lacks lacks_rest took old low eof new e → LacksSlice site lacks lacks_rest hand old seen eof new e
+lack_as site lacks lacks_rest old new took hand low seen eof e taken same h =
+    subst (λ (l : List ℕ). LacksSlice site lacks lacks_rest hand old l eof new e) same (subst (λ o. LacksSlice site lacks lacks_rest o old low eof new e) taken h)
 
 -- What a read gives is something, and no more than fits.
 pub read_some : (n : ℕ) (xs : List ℕ) → 0 < n → n ≤ length xs → take n xs ≡ [] → ⊥
@@ -157,19 +157,19 @@ module _ {T : Type 0} (c d : HttpConn T) where
   counts_slice (slice.Works u) l = inl l.0.counted
 
   module _ {H K : Type 0} (site : Site) (among : H → Method → List ℕ → RequestOutcome → H → Type 0) (rests : H → T → RequestOutcome → H → Type 0)
-      (tells : K → Said → K → Type 0) (now new : H) (before after : K) (whole : Bool) (text : List ℕ) where
-    wants_step : (s : ServeStep) → DoesStep site among tells now before (unread c.read_buffer) whole s text new after → StepFollows s c d → d.needs_input ≡ true → (c.needs_input ≡ true) ⊎ WantsMore (unread d.read_buffer)
+      (tells : K → Said → K → Type 0) (now new : H) (before after : K) (eof : Bool) (text : List ℕ) where
+    wants_step : (s : ServeStep) → DoesStep site among tells now before (unread c.read_buffer) eof s text new after → StepFollows s c d → d.needs_input ≡ true → (c.needs_input ≡ true) ⊎ WantsMore (unread d.read_buffer)
     wants_step step.More did f is = inr (subst WantsMore (sym f.still) did.1)
     wants_step s did f is = inl (sym f.needs_input ∙ is)
 
-    wants_slice : (hand : Option (UnderWay T)) (x : StepSlice T) → StepsFrom site among rests tells hand now before (unread c.read_buffer) whole x text new after
+    wants_slice : (hand : Option (UnderWay T)) (x : StepSlice T) → StepsFrom site among rests tells hand now before (unread c.read_buffer) eof x text new after
         → SliceLands x c d → hand ≡ None → d.needs_input ≡ true → (c.needs_input ≡ true) ⊎ WantsMore (unread d.read_buffer)
     wants_slice None (slice.Did s) did l none is = wants_step s did l.0 is
     wants_slice hand (slice.Works u) did l none is = inl (sym l.0.needs_input ∙ is)
     wants_slice (Some u) (slice.Did s) did l none is = absurd (cc)
 
     abbrev TurnMade : Type 0
-    TurnMade = (x : StepSlice T) × StepsFrom site among rests tells c.hand now before (unread c.read_buffer) whole x text new after × SliceLands x c d
+    TurnMade = (x : StepSlice T) × StepsFrom site among rests tells c.hand now before (unread c.read_buffer) eof x text new after × SliceLands x c d
 
     pub wants_made : {A E : Type 0} (r : Result A E) → OnOk r TurnMade → OnOk r (WantsSo c d)
     wants_made (Ok y) m = λ none is. wants_slice c.hand m.0 m.1 m.2 none is
@@ -188,7 +188,7 @@ slice_next c n at writes over = (at.0, at.1)
 -- A slice fails by a lack.
 pub slice_fails : {H T : Type 0} (site : Site) (lacks : H → Method → List ℕ → FrontKind → H → Type 0) (lacks_rest : H → T → FrontKind → H → Type 0) (limit : ℕ) (r q : Option (List ℕ))
     (now new : H) (c : HttpConn T) (n : Next) (e : FrontKind) → ¬ (n ≡ next.Writes) → ¬ (n ≡ next.Over) → ¬ (n ≡ next.Reads)
-    → LacksSlice site lacks lacks_rest c.hand now (unread c.read_buffer) c.whole new e → FailsAs site lacks lacks_rest limit r q now new n c e
+    → LacksSlice site lacks lacks_rest c.hand now (unread c.read_buffer) c.eof new e → FailsAs site lacks lacks_rest limit r q now new n c e
 slice_fails site lacks lacks_rest limit r q now new c next.Writes e writes over reads how = absurd (writes refl)
 slice_fails site lacks lacks_rest limit r q now new c next.Over e writes over reads how = absurd (over refl)
 slice_fails site lacks lacks_rest limit r q now new c next.Reads e writes over reads how = absurd (reads refl)

@@ -25,13 +25,13 @@ BlamesSource (Err kind.Read) was is left = is ≡ true
 BlamesSource (Err kind.TooManyReads) was is left = (left ≡ 0) × (is ≡ was)
 BlamesSource r was is left = is ≡ was
 
--- What a read adds to the bytes at hand: at most so many. whole: no bytes follow.
-pub record AddsBytes (r q : Option (List ℕ)) (old new : List ℕ) (limit : ℕ) (whole : Bool) : Type 0 where
+-- What a read adds to the bytes at hand: at most so many. eof: no bytes follow.
+pub record AddsBytes (r q : Option (List ℕ)) (old new : List ℕ) (limit : ℕ) (eof : Bool) : Type 0 where
   pub bytes : List ℕ
   pub took : Consumes r q bytes
   pub added : new ≡ old ++ bytes
   pub few : length bytes ≤ limit
-  pub end : whole ≡ true → IsAtEnd q
+  pub end : eof ≡ true → IsAtEnd q
 
 -- why a read of so many bytes at most adds nothing: the reader failed, or may not be read again, and gave no byte; or there was no memory for what it gave
 abbrev pub Loses : ℕ → Option (List ℕ) → Option (List ℕ) → FrontKind → Type 0

@@ -14,17 +14,17 @@ use Rattle.http_front.specs.declared.handler.RequestOutcome.{RequestOutcome}
 use Rattle.http_front.specs.declared.steps.ServeStep.{ServeStep}
 use Rattle.http_front.specs.declared.steps.ServeStep.TheVariants as step
 
--- An answer to the bytes is wanted: they begin with a head, or with none, whatever follows. whole: no bytes follow.
+-- An answer to the bytes is wanted: they begin with a head, or with none, whatever follows. eof: no bytes follow.
 abbrev pub WantsAnswer : List ℕ → Bool → Type 0
-WantsAnswer seen whole =
+WantsAnswer seen eof =
     ((h : RequestHead) × (rest : List ℕ) × BeginsWithin head_limit fields_limit seen h rest)
-    ⊎ (¬ (seen ≡ []) × StaysHeadless head_limit fields_limit seen whole)
+    ⊎ (¬ (seen ≡ []) × StaysHeadless head_limit fields_limit seen eof)
 
 -- Why the bytes get no answer: memory is lacking, where one is wanted; or names are, for a request that nothing refuses and whose path has a file.
 abbrev pub LacksAnswer : {H : Type 0} → Site → (H → Method → List ℕ → FrontKind → H → Type 0) → H → List ℕ → Bool → H → FrontKind → Type 0
-LacksAnswer site lacks old seen whole new kind.NoMemory = WantsAnswer seen whole
-LacksAnswer site lacks old seen whole new kind.NamesSpent = LacksFile site lacks old seen new
-LacksAnswer site lacks old seen whole new e = ⊥
+LacksAnswer site lacks old seen eof new kind.NoMemory = WantsAnswer seen eof
+LacksAnswer site lacks old seen eof new kind.NamesSpent = LacksFile site lacks old seen new
+LacksAnswer site lacks old seen eof new e = ⊥
 
 -- The text of a reply to such a request is made, with the Date line of a moment that the clock told. The clock is told of it.
 pub record IsReplyWritten {K : Type 0} (tells : K → Said → K → Type 0) (before : K) (method target : List ℕ) (r : Reply) (text : List ℕ) (after : K) : Type 0 where
@@ -51,11 +51,11 @@ module _ {H K : Type 0} (site : Site) (handles : H → Method → List ℕ → R
     pub still : after ≡ before
     pub none : text ≡ []
 
-  -- whole: no bytes follow those that are seen
+  -- eof: no bytes follow those that are seen
   abbrev pub DoesStep : H → K → List ℕ → Bool → ServeStep → List ℕ → H → K → Type 0
-  DoesStep old before seen whole (step.Stays size) text new after = ServesRequest old before seen false size text new after
-  DoesStep old before seen whole (step.Closes size) text new after = ServesRequest old before seen true size text new after
-  DoesStep old before seen whole step.Refused text new after =
-      ¬ (seen ≡ []) × StaysHeadless head_limit fields_limit seen whole × (new ≡ old) × SendsBad site handles tells before text after
-  DoesStep old before seen whole step.More text new after = (whole ≡ false) × WantsMore seen × WaitsForMore old before text new after
-  DoesStep old before seen whole step.Done text new after = (whole ≡ true) × (seen ≡ []) × WaitsForMore old before text new after
+  DoesStep old before seen eof (step.Stays size) text new after = ServesRequest old before seen false size text new after
+  DoesStep old before seen eof (step.Closes size) text new after = ServesRequest old before seen true size text new after
+  DoesStep old before seen eof step.Refused text new after =
+      ¬ (seen ≡ []) × StaysHeadless head_limit fields_limit seen eof × (new ≡ old) × SendsBad site handles tells before text after
+  DoesStep old before seen eof step.More text new after = (eof ≡ false) × WantsMore seen × WaitsForMore old before text new after
+  DoesStep old before seen eof step.Done text new after = (eof ≡ true) × (seen ≡ []) × WaitsForMore old before text new after

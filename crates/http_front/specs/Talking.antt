@@ -112,8 +112,8 @@ module _ {H T : Type 0} (site : Site) (lacks : H → Method → List ℕ → Fro
   FailsAs next.Writes c e = IsSinkKind e
   FailsAs next.Over c e = ⊥
   FailsAs next.Reads c e = Loses limit r q e
-  FailsAs next.Steps c e = LacksSlice site lacks lacks_rest c.hand now (unread c.read_buffer) c.whole new e
-  FailsAs next.Works c e = LacksSlice site lacks lacks_rest c.hand now (unread c.read_buffer) c.whole new e
+  FailsAs next.Steps c e = LacksSlice site lacks lacks_rest c.hand now (unread c.read_buffer) c.eof new e
+  FailsAs next.Works c e = LacksSlice site lacks lacks_rest c.hand now (unread c.read_buffer) c.eof new e
 
   -- what it waited for, and how it failed
   abbrev pub Fails : HttpConn T → FrontKind → Type 0

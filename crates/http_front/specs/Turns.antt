@@ -34,7 +34,7 @@ pub record WantsMore (seen : List ℕ) : Type 0 where
 abbrev pub IsDue : List ℕ → List ℕ → Type 0
 IsDue seen left =
     ((h : RequestHead) × (rest : List ℕ) × BeginsWithin head_limit fields_limit seen h rest)
-    ⊎ (¬ (seen ≡ []) × (whole : Bool) × (whole ≡ true → left ≡ []) × StaysHeadless head_limit fields_limit seen whole)
+    ⊎ (¬ (seen ≡ []) × (eof : Bool) × (eof ≡ true → left ≡ []) × StaysHeadless head_limit fields_limit seen eof)
 
 -- The bytes begin with a head for which names are lacking.
 pub record LacksFile {H : Type 0} (site : Site) (lacks : H → Method → List ℕ → FrontKind → H → Type 0) (old : H) (seen : List ℕ) (new : H) : Type 0 where

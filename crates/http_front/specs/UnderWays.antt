@@ -82,22 +82,22 @@ module _ {H T : Type 0} (site : Site) (among : H → Method → List ℕ → Req
 
   -- a step is made, or a request is under way, and nothing is answered yet
   abbrev pub StepMade : {K : Type 0} → (K → Said → K → Type 0) → H → K → List ℕ → Bool → StepSlice T → List ℕ → H → K → Type 0
-  StepMade tells old before seen whole (slice.Did s) text new after = DoesStep site among tells old before seen whole s text new after
-  StepMade tells old before seen whole (slice.Works u) text new after = IsUnderWay seen u old new × (after ≡ before) × (text ≡ [])
+  StepMade tells old before seen eof (slice.Did s) text new after = DoesStep site among tells old before seen eof s text new after
+  StepMade tells old before seen eof (slice.Works u) text new after = IsUnderWay seen u old new × (after ≡ before) × (text ≡ [])
 
   -- the same, from a request that is in hand, if there is one
   abbrev pub StepsFrom : {K : Type 0} → (K → Said → K → Type 0) → Option (UnderWay T) → H → K → List ℕ → Bool → StepSlice T → List ℕ → H → K → Type 0
-  StepsFrom tells None now before seen whole x text new after = StepMade tells now before seen whole x text new after
-  StepsFrom tells (Some u) now before seen whole x text new after = (old : H) → IsUnderWay seen u old now → StepMade tells old before seen whole x text new after
+  StepsFrom tells None now before seen eof x text new after = StepMade tells now before seen eof x text new after
+  StepsFrom tells (Some u) now before seen eof x text new after = (old : H) → IsUnderWay seen u old now → StepMade tells old before seen eof x text new after
 
 -- Why a slice of a step fails: there is no request in hand, and the bytes get no answer for this. Or memory is lacking for the request that is in hand, or for
 -- its response; or names are, for what is left of that request. lacks, lacks_rest: that the handler leaves a request without an outcome, or what was left of one
 module _ {H T : Type 0} (site : Site) (lacks : H → Method → List ℕ → FrontKind → H → Type 0) (lacks_rest : H → T → FrontKind → H → Type 0) where
   abbrev pub LacksSlice : Option (UnderWay T) → H → List ℕ → Bool → H → FrontKind → Type 0
-  LacksSlice None old seen whole new e = LacksAnswer site lacks old seen whole new e
-  LacksSlice (Some u) old seen whole new kind.NoMemory = Unit {0}
-  LacksSlice (Some u) old seen whole new kind.NamesSpent = lacks_rest old u.task kind.NamesSpent new
-  LacksSlice (Some u) old seen whole new e = ⊥
+  LacksSlice None old seen eof new e = LacksAnswer site lacks old seen eof new e
+  LacksSlice (Some u) old seen eof new kind.NoMemory = Unit {0}
+  LacksSlice (Some u) old seen eof new kind.NamesSpent = lacks_rest old u.task kind.NamesSpent new
+  LacksSlice (Some u) old seen eof new e = ⊥
 
 -- how many steps a slice makes of the request that is in hand, at most; one that begins a request makes twice as many
 abbrev pub most_steps : {T : Type 0} → Option (UnderWay T) → ℕ

@@ -61,7 +61,7 @@ pub struct HttpConn<T> {
     text: ResponseText,
     size: usize,
     sent: usize,
-    whole: bool,
+    eof: bool,
     needs_input: bool,
     over: bool,
     hand: Option<UnderWay<T>>,
@@ -116,7 +116,7 @@ impl<T: Drop> HttpConn<T> {
         ensures pending { pending result ≡ [] }
         ensures over { result.over ≡ false }
         ensures hand { result.hand ≡ None }
-        ensures whole { result.whole ≡ false }
+        ensures eof { result.eof ≡ false }
         ensures needs_input { result.needs_input ≡ true }
         ensures requests { result.requests ≡ 0 }
     {
@@ -125,7 +125,7 @@ impl<T: Drop> HttpConn<T> {
             text: ResponseText::new(alloc),
             size: 0,
             sent: 0,
-            whole: false,
+            eof: false,
             needs_input: true,
             over: false,
             hand: None,
@@ -167,7 +167,7 @@ impl<T: Drop> HttpConn<T> {
         ensures text { pending self.new ≡ pending self.old }
         ensures over { self.new.over ≡ self.old.over }
         ensures hand { self.new.hand ≡ self.old.hand }
-        ensures whole { self.new.whole ≡ true → (self.old.whole ≡ true) ⊎ IsAtEnd (R.remaining reader.new) }
+        ensures eof { self.new.eof ≡ true → (self.old.eof ≡ true) ⊎ IsAtEnd (R.remaining reader.new) }
         ensures needs_input { self.new.needs_input ≡ true → self.old.needs_input ≡ true }
         ensures requests { self.new.requests ≡ self.old.requests }
         ensures lost { IfErr result (λ e. Loses (length buffer.new) (R.remaining reader.old) (R.remaining reader.new) e) }
@@ -179,7 +179,7 @@ impl<T: Drop> HttpConn<T> {
         }
         match reader.read(buffer) {
             Ok(ReadAnswer::End) => {
-                self.whole = true;
+                self.eof = true;
                 self.needs_input = false;
                 Ok(Turned::Moved)
             }
@@ -203,7 +203,7 @@ impl<T: Drop> HttpConn<T> {
         ensures read_buffer { self.new.read_buffer ≡ self.old.read_buffer }
         ensures over { self.new.over ≡ self.old.over }
         ensures hand { self.new.hand ≡ self.old.hand }
-        ensures whole { self.new.whole ≡ self.old.whole }
+        ensures eof { self.new.eof ≡ self.old.eof }
         ensures needs_input { self.new.needs_input ≡ self.old.needs_input }
         ensures requests { self.new.requests ≡ self.old.requests }
         ensures still { handler.new ≡ handler.old }
@@ -226,7 +226,7 @@ impl<T: Drop> HttpConn<T> {
         ensures read_buffer { self.new.read_buffer ≡ self.old.read_buffer }
         ensures over { self.new.over ≡ self.old.over }
         ensures hand { self.new.hand ≡ self.old.hand }
-        ensures whole { self.new.whole ≡ self.old.whole }
+        ensures eof { self.new.eof ≡ self.old.eof }
         ensures needs_input { self.new.needs_input ≡ self.old.needs_input }
         ensures requests { self.new.requests ≡ self.old.requests }
         ensures still { handler.new ≡ handler.old }
@@ -262,7 +262,7 @@ impl<T: Drop> HttpConn<T> {
         ensures pending { pending self.new ≡ [] }
         ensures read_buffer { self.new.read_buffer ≡ self.old.read_buffer }
         ensures over { self.new.over ≡ self.old.over }
-        ensures whole { self.new.whole ≡ self.old.whole }
+        ensures eof { self.new.eof ≡ self.old.eof }
         ensures needs_input { self.new.needs_input ≡ self.old.needs_input }
         ensures requests { self.new.requests ≡ self.old.requests }
         ensures still { handler.new ≡ handler.old }
@@ -284,9 +284,9 @@ impl<T: Drop> HttpConn<T> {
         buffer: &mut [u8],
     ) -> Result<(), FrontKind>
         requires room { length buffer.old ≡ 8192 }
-        requires more { self.old.whole ≡ false }
-        ensures ok { OnOk result (AddsBytes (R.remaining (source_of reader.old)) (R.remaining (source_of reader.new)) (unread self.old.read_buffer) (unread self.new.read_buffer) 8192 self.new.whole) }
-        ensures waits { OnOk result (self.new.needs_input ≡ true → (self.new.whole ≡ false) × (unread self.new.read_buffer ≡ unread self.old.read_buffer)) }
+        requires more { self.old.eof ≡ false }
+        ensures ok { OnOk result (AddsBytes (R.remaining (source_of reader.old)) (R.remaining (source_of reader.new)) (unread self.old.read_buffer) (unread self.new.read_buffer) 8192 self.new.eof) }
+        ensures waits { OnOk result (self.new.needs_input ≡ true → (self.new.eof ≡ false) × (unread self.new.read_buffer ≡ unread self.old.read_buffer)) }
         ensures err { IfErr result (λ e. Loses 8192 (R.remaining (source_of reader.old)) (R.remaining (source_of reader.new)) e) }
         ensures blames { BlamesSource result (R.failed (source_of reader.old)) (R.failed (source_of reader.new)) (reads_left reader.new) }
         ensures counted { OnOk result (reads_left reader.old ≡ reads_left reader.new + 1) }
@@ -298,7 +298,7 @@ impl<T: Drop> HttpConn<T> {
     {
         match reader.read(buffer) {
             Ok(ReadAnswer::End) => {
-                self.whole = true;
+                self.eof = true;
                 self.needs_input = false;
                 Ok(())
             }
@@ -325,7 +325,7 @@ impl<T: Drop> HttpConn<T> {
         ensures text { self.new.text ≡ self.old.text }
         ensures sent { self.new.sent ≡ self.old.sent }
         ensures hand { self.new.hand ≡ self.old.hand }
-        ensures whole { self.new.whole ≡ self.old.whole }
+        ensures eof { self.new.eof ≡ self.old.eof }
     {
         match step {
             ServeStep::More => self.needs_input = true,
@@ -361,10 +361,10 @@ impl<T: Drop> HttpConn<T> {
         ensures beside { (from : H) → H.beside from number handler.old → H.beside from number handler.new }
         ensures clock { (from : K) → Passes K.tells from clock.old → Passes K.tells from clock.new }
         ensures did { OnOk result ((x : StepSlice T) × StepsFrom site.now (λ old. P.comes old number) (λ old. P.rests old number) K.tells self.old.hand handler.old
-            clock.old (unread self.old.read_buffer) self.old.whole x (pending self.new) handler.new clock.new
+            clock.old (unread self.old.read_buffer) self.old.eof x (pending self.new) handler.new clock.new
             × SliceLands x self.old self.new) }
-        ensures whole { self.new.whole ≡ self.old.whole }
-        ensures lacks { IfErr result (LacksSlice site.now (λ old. H.lacks old number) (λ old. P.lacks_rest old number) self.old.hand handler.old (unread self.old.read_buffer) self.old.whole handler.new) }
+        ensures eof { self.new.eof ≡ self.old.eof }
+        ensures lacks { IfErr result (LacksSlice site.now (λ old. H.lacks old number) (λ old. P.lacks_rest old number) self.old.hand handler.old (unread self.old.read_buffer) self.old.eof handler.new) }
         ensures none { OnErr result (pending self.new ≡ []) }
         ensures sent { self.new.sent ≡ 0 }
         ensures few { P.steps handler.old number (most_steps self.old.hand) handler.new }
@@ -376,7 +376,7 @@ impl<T: Drop> HttpConn<T> {
         let did = step_on::<H, K, P>(
             alloc,
             seen,
-            self.whole,
+            self.eof,
             hand,
             site,
             handler,
@@ -417,7 +417,7 @@ impl<T: Drop> HttpConn<T> {
         ensures others { (k : ℕ) → k ≢ number → (start : H) (first : K) (came went : List ℕ) (other : HttpConn T)
             → ConnStands site.now (λ old. H.among old k) (λ old. H.rests old k) K.tells (λ old new. H.apart old k new) start first came went other handler.old clock.old
             → ConnStands site.now (λ old. H.among old k) (λ old. H.rests old k) K.tells (λ old new. H.apart old k new) start first came went other handler.new clock.new }
-        ensures whole { self.new.whole ≡ true → (self.old.whole ≡ true) ⊎ IsAtEnd (R.remaining reader.new) }
+        ensures eof { self.new.eof ≡ true → (self.old.eof ≡ true) ⊎ IsAtEnd (R.remaining reader.new) }
         ensures fails { IfErr result (Fails site.now (λ old. H.lacks old number) (λ old. H.lacks_rest old number) (length buffer.new) (R.remaining reader.old)
             (R.remaining reader.new) handler.old handler.new self.old) }
         ensures none { OnErr result (pending self.old ≡ [] → pending self.new ≡ []) }

@@ -30,13 +30,13 @@ fn answer_next<W: Sink, H: Handler, K: Clock>(
     ensures open { H.is_open handler.new number }
     ensures beside { (from : H) → H.beside from number handler.old → H.beside from number handler.new }
     ensures few { OnOk result (conn.new.over ≡ false → conn.new.requests + length (unread conn.new.read_buffer) ≤ conn.old.requests + length (unread conn.old.read_buffer)) }
-    ensures whole { conn.new.whole ≡ conn.old.whole }
+    ensures eof { conn.new.eof ≡ conn.old.eof }
     ensures written { pending conn.new ≡ [] }
     ensures less { OnOk result (to_do conn.new < to_do conn.old) }
-    ensures needs_input { OnOk result (conn.new.needs_input ≡ true → (conn.old.whole ≡ false) × WantsMore (unread conn.new.read_buffer)) }
+    ensures needs_input { OnOk result (conn.new.needs_input ≡ true → (conn.old.eof ≡ false) × WantsMore (unread conn.new.read_buffer)) }
     ensures blames { BlamesSink result (W.failed sink.old) (W.failed sink.new) }
     ensures unread { result ≢ Err FrontKind.Read × result ≢ Err FrontKind.TooManyReads }
-    ensures goes { (old : H) (before : K) (r q w : Option (List ℕ)) → (conn.old.whole ≡ true → IsAtEnd q)
+    ensures goes { (old : H) (before : K) (r q w : Option (List ℕ)) → (conn.old.eof ≡ true → IsAtEnd q)
         → ServedSoFar site.now (λ h. H.handles h number) K.tells old before r q w (W.contents sink.old) (unread conn.old.read_buffer) conn.old.requests handler.old clock.old
         → ServeGoes site.now (λ h. H.handles h number) K.tells (λ h. H.lacks h number) old before r q w (W.contents sink.new) conn.new.over
         (unread conn.new.read_buffer) conn.new.requests handler.new clock.new result }
@@ -58,17 +58,17 @@ fn answer_all<W: Sink, H: Handler, K: Clock>(
     requires open { H.is_open handler.old number }
     requires going { conn.old.over ≡ false }
     requires written { pending conn.old ≡ [] }
-    requires needs_input { conn.old.needs_input ≡ true → (conn.old.whole ≡ false) × WantsMore (unread conn.old.read_buffer) }
+    requires needs_input { conn.old.needs_input ≡ true → (conn.old.eof ≡ false) × WantsMore (unread conn.old.read_buffer) }
     requires few { conn.old.requests + length (unread conn.old.read_buffer) < 2 ^ 63 }
     ensures open { H.is_open handler.new number }
     ensures beside { (from : H) → H.beside from number handler.old → H.beside from number handler.new }
     ensures few { result ≡ Ok false → conn.new.requests + length (unread conn.new.read_buffer) ≤ conn.old.requests + length (unread conn.old.read_buffer) }
     ensures over { IfOk result (λ over. conn.new.over ≡ over) }
     ensures written { pending conn.new ≡ [] }
-    ensures needs_input { result ≡ Ok false → (conn.new.whole ≡ false) × WantsMore (unread conn.new.read_buffer) }
+    ensures needs_input { result ≡ Ok false → (conn.new.eof ≡ false) × WantsMore (unread conn.new.read_buffer) }
     ensures blames { BlamesSink result (W.failed sink.old) (W.failed sink.new) }
     ensures unread { result ≢ Err FrontKind.Read × result ≢ Err FrontKind.TooManyReads }
-    ensures goes { (old : H) (before : K) (r q w : Option (List ℕ)) → (conn.old.whole ≡ true → IsAtEnd q)
+    ensures goes { (old : H) (before : K) (r q w : Option (List ℕ)) → (conn.old.eof ≡ true → IsAtEnd q)
         → ServedSoFar site.now (λ h. H.handles h number) K.tells old before r q w (W.contents sink.old) (unread conn.old.read_buffer) conn.old.requests handler.old clock.old
         → ServeGoes site.now (λ h. H.handles h number) K.tells (λ h. H.lacks h number) old before r q w (W.contents sink.new) conn.new.over
         (unread conn.new.read_buffer) conn.new.requests handler.new clock.new result }

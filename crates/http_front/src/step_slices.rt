@@ -87,8 +87,8 @@ fn begin_head<H: Handler, K: Clock, P: Pace<H>>(
     ensures open { H.is_open handler.new number }
     ensures beside { (from : H) → H.beside from number handler.old → H.beside from number handler.new }
     ensures clock { (from : K) → Passes K.tells from clock.old → Passes K.tells from clock.new }
-    ensures ok { IfOk result (λ x. (whole : Bool) → StepMade site.now (λ old. P.comes old number) (λ old. P.rests old number) K.tells handler.old clock.old seen.now
-        whole x (text_of text.new) handler.new clock.new) }
+    ensures ok { IfOk result (λ x. (eof : Bool) → StepMade site.now (λ old. P.comes old number) (λ old. P.rests old number) K.tells handler.old clock.old seen.now
+        eof x (text_of text.new) handler.new clock.new) }
     ensures err { IfErr result (λ e. IsLack e × (e ≡ FrontKind.NamesSpent → (h : RequestHead) → IsRequestAt seen.now spans.now head h
         → LacksNamesAt (λ old. H.lacks old number) site.now handler.old h handler.new)) }
     ensures few { P.steps handler.old number (2 * slice_steps) handler.new }
@@ -108,7 +108,7 @@ fn begin_head<H: Handler, K: Clock, P: Pace<H>>(
 fn begin_within<H: Handler, K: Clock, P: Pace<H>>(
     alloc: Global,
     seen: &[u8],
-    whole: bool,
+    eof: bool,
     spans: &mut [HeaderSpan],
     site: &Site,
     handler: &mut H,
@@ -122,18 +122,18 @@ fn begin_within<H: Handler, K: Clock, P: Pace<H>>(
     ensures open { H.is_open handler.new number }
     ensures beside { (from : H) → H.beside from number handler.old → H.beside from number handler.new }
     ensures clock { (from : K) → Passes K.tells from clock.old → Passes K.tells from clock.new }
-    ensures ok { IfOk result (λ x. StepMade site.now (λ old. P.comes old number) (λ old. P.rests old number) K.tells handler.old clock.old seen.now whole x (text_of text.new) handler.new clock.new) }
-    ensures err { IfErr result (LacksAnswer site.now (λ old. H.lacks old number) handler.old seen.now whole handler.new) }
+    ensures ok { IfOk result (λ x. StepMade site.now (λ old. P.comes old number) (λ old. P.rests old number) K.tells handler.old clock.old seen.now eof x (text_of text.new) handler.new clock.new) }
+    ensures err { IfErr result (LacksAnswer site.now (λ old. H.lacks old number) handler.old seen.now eof handler.new) }
     ensures few { P.steps handler.old number (2 * slice_steps) handler.new }
 {
     text.clear(alloc);
-    if seen.is_empty() && whole {
+    if seen.is_empty() && eof {
         return Ok(StepSlice::Did(ServeStep::Done));
     }
     if seen.is_empty() {
         return Ok(StepSlice::Did(ServeStep::More));
     }
-    match look_at(seen, HEAD_LIMIT, whole, spans) {
+    match look_at(seen, HEAD_LIMIT, eof, spans) {
         HeadLook::Head(head) => begin_head::<H, K, P>(
             alloc, seen, spans, head, site, handler, number, clock, text,
         ),
@@ -150,7 +150,7 @@ fn begin_within<H: Handler, K: Clock, P: Pace<H>>(
 fn begin_step<H: Handler, K: Clock, P: Pace<H>>(
     alloc: Global,
     seen: &[u8],
-    whole: bool,
+    eof: bool,
     site: &Site,
     handler: &mut H,
     number: u64,
@@ -161,15 +161,15 @@ fn begin_step<H: Handler, K: Clock, P: Pace<H>>(
     ensures open { H.is_open handler.new number }
     ensures beside { (from : H) → H.beside from number handler.old → H.beside from number handler.new }
     ensures clock { (from : K) → Passes K.tells from clock.old → Passes K.tells from clock.new }
-    ensures ok { IfOk result (λ x. StepMade site.now (λ old. P.comes old number) (λ old. P.rests old number) K.tells handler.old clock.old seen.now whole x (text_of text.new) handler.new clock.new) }
-    ensures err { IfErr result (LacksAnswer site.now (λ old. H.lacks old number) handler.old seen.now whole handler.new) }
+    ensures ok { IfOk result (λ x. StepMade site.now (λ old. P.comes old number) (λ old. P.rests old number) K.tells handler.old clock.old seen.now eof x (text_of text.new) handler.new clock.new) }
+    ensures err { IfErr result (LacksAnswer site.now (λ old. H.lacks old number) handler.old seen.now eof handler.new) }
     ensures few { P.steps handler.old number (2 * slice_steps) handler.new }
 {
     let mut spans = [EMPTY_HEADER_SPAN; FIELDS_LIMIT];
     begin_within::<H, K, P>(
         alloc,
         front(seen, HEAD_LIMIT),
-        ends_within(whole, seen.len(), HEAD_LIMIT),
+        ends_within(eof, seen.len(), HEAD_LIMIT),
         &mut spans,
         site,
         handler,
@@ -193,8 +193,8 @@ fn go_on_step<H: Handler, K: Clock, P: Pace<H>>(
     ensures open { H.is_open handler.new number }
     ensures beside { (from : H) → H.beside from number handler.old → H.beside from number handler.new }
     ensures clock { (from : K) → Passes K.tells from clock.old → Passes K.tells from clock.new }
-    ensures ok { IfOk result (λ x. (site : Site) (whole : Bool) (old : H) → IsUnderWay site (λ old. P.comes old number) (λ old. P.rests old number) seen.now under_way old handler.old
-        → StepMade site (λ old. P.comes old number) (λ old. P.rests old number) K.tells old clock.old seen.now whole x (text_of text.new) handler.new clock.new) }
+    ensures ok { IfOk result (λ x. (site : Site) (eof : Bool) (old : H) → IsUnderWay site (λ old. P.comes old number) (λ old. P.rests old number) seen.now under_way old handler.old
+        → StepMade site (λ old. P.comes old number) (λ old. P.rests old number) K.tells old clock.old seen.now eof x (text_of text.new) handler.new clock.new) }
     ensures err { IfErr result (λ e. IsLack e × (e ≡ FrontKind.NamesSpent → P.lacks_rest handler.old number under_way.task e handler.new)) }
     ensures few { P.steps handler.old number slice_steps handler.new }
 {
@@ -214,7 +214,7 @@ fn go_on_step<H: Handler, K: Clock, P: Pace<H>>(
 pub(crate) fn step_on<H: Handler, K: Clock, P: Pace<H>>(
     alloc: Global,
     seen: &[u8],
-    whole: bool,
+    eof: bool,
     hand: Option<UnderWay<P::Task>>,
     site: &Site,
     handler: &mut H,
@@ -226,15 +226,15 @@ pub(crate) fn step_on<H: Handler, K: Clock, P: Pace<H>>(
     ensures open { H.is_open handler.new number }
     ensures beside { (from : H) → H.beside from number handler.old → H.beside from number handler.new }
     ensures clock { (from : K) → Passes K.tells from clock.old → Passes K.tells from clock.new }
-    ensures ok { IfOk result (λ x. StepsFrom site.now (λ old. P.comes old number) (λ old. P.rests old number) K.tells hand handler.old clock.old seen.now whole x
+    ensures ok { IfOk result (λ x. StepsFrom site.now (λ old. P.comes old number) (λ old. P.rests old number) K.tells hand handler.old clock.old seen.now eof x
         (text_of text.new) handler.new clock.new) }
-    ensures err { IfErr result (LacksSlice site.now (λ old. H.lacks old number) (λ old. P.lacks_rest old number) hand handler.old seen.now whole handler.new) }
+    ensures err { IfErr result (LacksSlice site.now (λ old. H.lacks old number) (λ old. P.lacks_rest old number) hand handler.old seen.now eof handler.new) }
     ensures few { P.steps handler.old number (most_steps hand) handler.new }
 {
     match hand {
         Some(under_way) => go_on_step::<H, K, P>(
             alloc, seen, under_way, handler, number, clock, text,
         ),
-        None => begin_step::<H, K, P>(alloc, seen, whole, site, handler, number, clock, text),
+        None => begin_step::<H, K, P>(alloc, seen, eof, site, handler, number, clock, text),
     }
 }

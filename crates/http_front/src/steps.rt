@@ -22,10 +22,10 @@ pub(crate) enum ServeStep {
     Done,
 }
 
-pub(crate) fn ends_within(whole: bool, size: usize, limit: usize) -> bool
-    ensures { result ≡ (whole && nat_le size limit) }
+pub(crate) fn ends_within(eof: bool, size: usize, limit: usize) -> bool
+    ensures { result ≡ (eof && nat_le size limit) }
 {
-    whole && size <= limit
+    eof && size <= limit
 }
 
 pub(crate) fn front(bytes: &[u8], limit: usize) -> &[u8]

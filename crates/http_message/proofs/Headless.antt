@@ -39,8 +39,8 @@ pub headless_now : (limit room : ℕ) (buf : List ℕ) → HasNoRequest buf → 
 headless_now limit room buf none h rest begins = none h rest begins.reads
 
 -- and nothing follows
-pub headless_whole : (limit room : ℕ) (buf : List ℕ) (whole : Bool) → whole ≡ true → HasNoRequest buf → StaysHeadless limit room buf whole
-headless_whole limit room buf whole is none more over h rest begins =
+pub headless_eof : (limit room : ℕ) (buf : List ℕ) (eof : Bool) → eof ≡ true → HasNoRequest buf → StaysHeadless limit room buf eof
+headless_eof limit room buf eof is none more over h rest begins =
     let nothing : buf ++ more ≡ buf = ap (λ x. buf ++ x) (over is) ∙ append-nil buf in
     none h rest (subst (λ x. ReadsRequest x h rest) nothing begins.reads)
 
@@ -53,14 +53,14 @@ front_only buf more text rest same fits =
     sym (take-append-drop (length text) buf) ∙ ap (λ x. x ++ drop (length text) buf) front
 
 -- as many bytes as a head may have are at hand
-pub headless_full : (limit room : ℕ) (buf : List ℕ) (whole : Bool) → length buf ≡ limit → HasNoRequest buf → StaysHeadless limit room buf whole
-headless_full limit room buf whole full none more over h rest begins =
+pub headless_full : (limit room : ℕ) (buf : List ℕ) (eof : Bool) → length buf ≡ limit → HasNoRequest buf → StaysHeadless limit room buf eof
+headless_full limit room buf eof full none more over h rest begins =
     let text = print_request h in
     none h (drop (length text) buf) (begins.reads.0, front_only buf more text rest begins.reads.1 (omega (arith, full, begins.size)))
 
 -- each head has too many fields
-pub headless_fields : (limit room : ℕ) (buf : List ℕ) (whole : Bool) → RequestOverflows room buf → StaysHeadless limit room buf whole
-headless_fields limit room buf whole many more over h rest begins =
+pub headless_fields : (limit room : ℕ) (buf : List ℕ) (eof : Bool) → RequestOverflows room buf → StaysHeadless limit room buf eof
+headless_fields limit room buf eof many more over h rest begins =
     let low = many more h rest begins.reads in
     absurd (omega (arith, low, begins.count))
 

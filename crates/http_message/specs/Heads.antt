@@ -15,5 +15,5 @@ IsHeadlessWithin limit room stream =
 
 -- whatever follows, or where nothing follows, the stream begins with no head within the limits
 abbrev pub StaysHeadless : ℕ → ℕ → List ℕ → Bool → Type 0
-StaysHeadless limit room seen whole =
-    (more : List ℕ) → (whole ≡ true → more ≡ []) → IsHeadlessWithin limit room (seen ++ more)
+StaysHeadless limit room seen eof =
+    (more : List ℕ) → (eof ≡ true → more ≡ []) → IsHeadlessWithin limit room (seen ++ more)

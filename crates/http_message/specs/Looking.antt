@@ -16,7 +16,7 @@ IsHeadFound limit seen spans r =
 
 -- a head is found, or more bytes are needed, or there is none whatever comes
 abbrev pub Looks : ℕ → List ℕ → Bool → List HeaderSpan → HeadLook → Type 0
-Looks limit seen whole spans (Head r) = IsRequestWithin seen spans r × IsHeadFound limit seen spans r
-Looks limit seen whole spans More =
-    (whole ≡ false) × (length seen < limit) × MayBecomeRequest seen × IsHeadlessWithin limit (length spans) seen
-Looks limit seen whole spans Headless = StaysHeadless limit (length spans) seen whole
+Looks limit seen eof spans (Head r) = IsRequestWithin seen spans r × IsHeadFound limit seen spans r
+Looks limit seen eof spans More =
+    (eof ≡ false) × (length seen < limit) × MayBecomeRequest seen × IsHeadlessWithin limit (length spans) seen
+Looks limit seen eof spans Headless = StaysHeadless limit (length spans) seen eof

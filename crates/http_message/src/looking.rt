@@ -18,15 +18,15 @@ pub enum HeadLook {
 }
 
 /// Looks for a head of at most `limit` bytes at the front of `seen`, with as many fields as there are
-/// spans. `whole` says that no bytes follow.
-pub fn look_at(seen: &[u8], limit: usize, whole: bool, spans: &mut [HeaderSpan]) -> HeadLook
+/// spans. `eof` says that no bytes follow.
+pub fn look_at(seen: &[u8], limit: usize, eof: bool, spans: &mut [HeaderSpan]) -> HeadLook
     requires { length seen.now ≤ limit }
-    ensures looks { Looks limit seen.now whole spans.new result }
+    ensures looks { Looks limit seen.now eof spans.new result }
     ensures room { length spans.new ≡ length spans.old }
 {
     match parse_request(seen, spans) {
         Ok(Status::Complete(head)) => HeadLook::Head(head),
-        Ok(Status::Partial) if whole => HeadLook::Headless,
+        Ok(Status::Partial) if eof => HeadLook::Headless,
         Ok(Status::Partial) if seen.len() == limit => HeadLook::Headless,
         Ok(Status::Partial) => HeadLook::More,
         Err(_) => HeadLook::Headless,

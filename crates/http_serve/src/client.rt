@@ -4,7 +4,7 @@ ghost use Rattle.std.specs.Prelude.{◌<◌, length};
 ghost use Rattle.http_front.specs.Driven.{IsAlive};
 
 use crate::head_reader::Deadline;
-use crate::request_log::{RequestLog, told_by};
+use crate::request_log::{RequestLog, log_where};
 use crate::socket::Socket;
 use crate::system_clock::SystemClock;
 use byte_streams::{Sink, SocketSink, Source, StdSource};
@@ -45,7 +45,7 @@ pub struct SharedState<'a, R: Clock + Eprint + AllocGlobal> {
     pub site: &'a Site,
     /// How long a head may take, a response to be taken, and an idle connection.
     pub patience: Duration,
-    /// Whether requests and connections are told.
+    /// Whether requests and connections are logged.
     pub logs: bool,
     pub buffer: Vec<u8>,
     ghost room: { 0 < length buffer.items },
@@ -261,7 +261,7 @@ impl Client {
         };
         let mut clock = SystemClock {
             runtime: shared.runtime,
-            log: told_by(shared.logs, &log),
+            log: log_where(shared.logs, &log),
         };
         let mut source = StdSource::polled(Socket::new(&self.stream));
         let turned = turn_conn(
@@ -312,7 +312,7 @@ impl Client {
         TurnOutcome::Again
     }
 
-    /// Tells how it ended, where that is told.
+    /// Logs how it ended, where that is logged.
     fn log_end<R: Clock + Eprint + AllocGlobal>(
         &self,
         shared: &SharedState<'_, R>,

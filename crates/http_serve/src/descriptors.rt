@@ -8,7 +8,7 @@ fn wanted(at_once: u32) -> u64 {
     u64::from(at_once) * 2 + 16
 }
 
-/// How many descriptors the program may have, where the system tells it.
+/// How many descriptors the program may have, where the system says it.
 fn allowed() -> Option<u64> {
     let mut limit = rlimit {
         rlim_cur: 0,

@@ -18,7 +18,7 @@ use std::rt::Clock;
 use std::time::{Duration, Instant};
 
 /// The token of the listener; those of the clients are their keys, which are below it.
-const DOOR: usize = 1 << 40;
+const LISTENER: usize = 1 << 40;
 
 /// How many reports a wait gives at most.
 const REPORTS: usize = 256;
@@ -35,7 +35,7 @@ const PAUSE_MILLIS: u64 = 100;
 /// The clients, and those whose turn it is.
 #[derive(Drop)]
 struct Clients {
-    clients: Slab<Client>,
+    by_key: Slab<Client>,
     queue: VecDeque<usize>,
     late: Vec<usize>,
 }
@@ -43,7 +43,7 @@ struct Clients {
 impl Clients {
     /// Takes note of what the system reported of a client.
     fn note(&mut self, key: usize, event: &Event) {
-        let Some(client) = self.clients.get_mut(key) else {
+        let Some(client) = self.by_key.get_mut(key) else {
             return;
         };
         client.readable = client.readable || event.is_readable() || event.is_read_closed();
@@ -54,7 +54,7 @@ impl Clients {
 
     /// A client gets its turn.
     fn wake(&mut self, key: usize) {
-        let Some(client) = self.clients.get_mut(key) else {
+        let Some(client) = self.by_key.get_mut(key) else {
             return;
         };
         if !client.queued && self.queue.push_back(key).is_ok() {
@@ -64,7 +64,7 @@ impl Clients {
 
     /// A client takes a place and gets its turn. Answers whether there was memory for it.
     fn admit(&mut self, client: Client) -> bool {
-        let Ok(key) = self.clients.insert(client) else {
+        let Ok(key) = self.by_key.insert(client) else {
             return false;
         };
         self.wake(key);
@@ -76,11 +76,11 @@ impl Clients {
         requires { IsAlive F.device host.old }
         ensures { IsAlive F.device host.new }
     {
-        let Some(client) = self.clients.get_mut(key) else {
+        let Some(client) = self.by_key.get_mut(key) else {
             return;
         };
         if close_turns(host, client.host_number) {
-            let _ = self.clients.try_remove(key);
+            let _ = self.by_key.try_remove(key);
             return;
         }
         client.gone = true;
@@ -97,7 +97,7 @@ impl Clients {
         requires { IsAlive F.device host.old }
         ensures { IsAlive F.device host.new }
     {
-        let Some(client) = self.clients.get_mut(key) else {
+        let Some(client) = self.by_key.get_mut(key) else {
             return;
         };
         client.queued = false;
@@ -136,7 +136,7 @@ impl Clients {
         now: Instant,
     ) {
         self.late.clear();
-        for (key, client) in self.clients.iter() {
+        for (key, client) in self.by_key.iter() {
             if client.gone || (client.due <= now && !client.works()) {
                 client.log_late(shared);
                 let _ = self.late.push(key);
@@ -263,7 +263,7 @@ fn enter<F: Files + Drop, B: Rings<Stored> + Drop>(
 
 /// A client comes in.
 fn welcome<R: Clock + Eprint + AllocGlobal, F: Files + Drop, B: Rings<Stored> + Drop>(
-    room: &mut Clients,
+    clients: &mut Clients,
     shared: &SharedState<'_, R>,
     host: &mut Host<F, B>,
     poll: &Poll,
@@ -275,8 +275,8 @@ fn welcome<R: Clock + Eprint + AllocGlobal, F: Files + Drop, B: Rings<Stored> + 
     ensures { IsAlive F.device host.new }
 {
     let (mut stream, peer) = taken;
-    let host_number = enter(&mut stream, host, poll, room.clients.vacant_key())?;
-    if room.admit(Client::new(shared, stream, peer, host_number, number, now)) {
+    let host_number = enter(&mut stream, host, poll, clients.by_key.vacant_key())?;
+    if clients.admit(Client::new(shared, stream, peer, host_number, number, now)) {
         return Ok(());
     }
     let _ = close_turns(host, host_number);
@@ -286,7 +286,7 @@ fn welcome<R: Clock + Eprint + AllocGlobal, F: Files + Drop, B: Rings<Stored> + 
 /// Takes those that wait, as many as there are places.
 fn take<R: Clock + Eprint + AllocGlobal, F: Files + Drop, B: Rings<Stored> + Drop>(
     acceptor: &mut Acceptor,
-    room: &mut Clients,
+    clients: &mut Clients,
     shared: &SharedState<'_, R>,
     host: &mut Host<F, B>,
     poll: &Poll,
@@ -297,7 +297,7 @@ fn take<R: Clock + Eprint + AllocGlobal, F: Files + Drop, B: Rings<Stored> + Dro
 {
     acceptor.end_pause(now);
     for _ in 0..TAKEN_IN_A_ROW {
-        if acceptor.waits(room.clients.len()) {
+        if acceptor.waits(clients.by_key.len()) {
             return;
         }
         let Some(taken) = acceptor.next(shared.runtime, shared.logs, now) else {
@@ -305,7 +305,7 @@ fn take<R: Clock + Eprint + AllocGlobal, F: Files + Drop, B: Rings<Stored> + Dro
         };
         let peer = taken.1;
         let number = acceptor.taken;
-        if let Err(error) = welcome(room, shared, host, poll, taken, number, now) {
+        if let Err(error) = welcome(clients, shared, host, poll, taken, number, now) {
             if shared.logs {
                 log_unready(shared.runtime, peer, number, &error);
             }
@@ -314,25 +314,25 @@ fn take<R: Clock + Eprint + AllocGlobal, F: Files + Drop, B: Rings<Stored> + Dro
 }
 
 /// How long the loop may wait: not at all where somebody's turn is, or somebody can be taken; to the next sweep where there is any client, or the
-/// door pauses.
-fn patience_of(room: &Clients, acceptor: &Acceptor) -> Option<Duration> {
-    if !room.queue.is_empty() || !acceptor.waits(room.clients.len()) {
+/// listener pauses.
+fn patience_of(clients: &Clients, acceptor: &Acceptor) -> Option<Duration> {
+    if !clients.queue.is_empty() || !acceptor.waits(clients.by_key.len()) {
         return Some(Duration::ZERO);
     }
-    if room.clients.is_empty() && acceptor.pause.is_none() {
+    if clients.by_key.is_empty() && acceptor.pause.is_none() {
         return None;
     }
     Some(Duration::from_millis(SWEEP_MILLIS))
 }
 
 /// Takes note of what the system reports.
-fn note(events: &Events, room: &mut Clients, acceptor: &mut Acceptor) {
+fn note(events: &Events, clients: &mut Clients, acceptor: &mut Acceptor) {
     for event in events.iter() {
         let Token(key) = event.token();
-        if key == DOOR {
+        if key == LISTENER {
             acceptor.open = true;
         } else {
-            room.note(key, event);
+            clients.note(key, event);
         }
     }
 }
@@ -345,9 +345,9 @@ fn wait(poll: &mut Poll, events: &mut Events, most: Option<Duration>) -> io::Res
     }
 }
 
-/// Serves the clients of a hall by turns, and those that come in, until all are served.
+/// Serves clients by turns, and those that come in, until all are served.
 fn serve_clients<R: Clock + Eprint + AllocGlobal, F: Files + Drop, B: Rings<Stored> + Drop>(
-    room: &mut Clients,
+    clients: &mut Clients,
     shared: &mut SharedState<'_, R>,
     host: &mut Host<F, B>,
     poll: &mut Poll,
@@ -358,41 +358,22 @@ fn serve_clients<R: Clock + Eprint + AllocGlobal, F: Files + Drop, B: Rings<Stor
 {
     let mut swept = Instant::now(shared.runtime)?;
     for _ in 0..u64::MAX {
-        if acceptor.left == 0 && room.clients.is_empty() {
+        if acceptor.left == 0 && clients.by_key.is_empty() {
             return Ok(());
         }
-        let most = patience_of(room, acceptor);
+        let most = patience_of(clients, acceptor);
         wait(poll, events, most)?;
-        note(events, room, acceptor);
+        note(events, clients, acceptor);
         let now = Instant::now(shared.runtime)?;
-        take(acceptor, room, shared, host, poll, now);
-        room.go_round(shared, host, now);
-        swept = room.sweep_in_time(shared, host, swept, now);
+        take(acceptor, clients, shared, host, poll, now);
+        clients.go_round(shared, host, now);
+        swept = clients.sweep_in_time(shared, host, swept, now);
     }
     Ok(())
 }
 
-/// Serves connections by turns, up to so many at once.
-fn run<R: Clock + Eprint + AllocGlobal, F: Files + Drop, B: Rings<Stored> + Drop>(
-    shared: &mut SharedState<'_, R>,
-    host: &mut Host<F, B>,
-    poll: &mut Poll,
-    events: &mut Events,
-    acceptor: &mut Acceptor,
-) -> io::Result<()>
-    requires { IsAlive F.device host.old }
-{
-    let alloc = shared.runtime.alloc();
-    let mut room = Clients {
-        clients: Slab::new(alloc),
-        queue: VecDeque::new(alloc),
-        late: Vec::new(alloc),
-    };
-    serve_clients(&mut room, shared, host, poll, events, acceptor)
-}
-
-/// The door behind which these settings serve.
-fn door_of(listener: TcpListener, settings: ServeSettings) -> Acceptor {
+/// The listener of these settings, of which nobody is accepted yet.
+fn acceptor_of(listener: TcpListener, settings: ServeSettings) -> Acceptor {
     Acceptor {
         listener,
         open: true,
@@ -406,32 +387,12 @@ fn door_of(listener: TcpListener, settings: ServeSettings) -> Acceptor {
     }
 }
 
-/// Serves those who come to a door.
-fn serve_door<R: Clock + Eprint + AllocGlobal, F: Files + Drop, B: Rings<Stored> + Drop>(
-    rt: &R,
-    site: &Site,
-    host: &mut Host<F, B>,
-    settings: ServeSettings,
-    poll: &mut Poll,
-    events: &mut Events,
-    acceptor: &mut Acceptor,
-) -> io::Result<()>
-    requires { IsAlive F.device host.old }
-{
-    poll.registry()
-        .register(&mut acceptor.listener, Token(DOOR), Interest::READABLE)?;
-    let mut shared = SharedState {
-        runtime: rt,
-        site,
-        patience: settings.patience,
-        logs: settings.logs,
-        buffer: vec![in rt.alloc(); 0; 8192]?,
-    };
-    run(&mut shared, host, poll, events, acceptor)
-}
-
 /// Serves connections by turns, up to so many at once. One that cannot be taken is none. It fails only where the system reports no events.
-pub fn serve_turns<R: Clock + Eprint + AllocGlobal + Net, F: Files + Drop, B: Rings<Stored> + Drop>(
+pub fn serve_by_turns<
+    R: Clock + Eprint + AllocGlobal + Net,
+    F: Files + Drop,
+    B: Rings<Stored> + Drop,
+>(
     rt: &R,
     listener: TcpListener,
     site: &Site,
@@ -440,14 +401,27 @@ pub fn serve_turns<R: Clock + Eprint + AllocGlobal + Net, F: Files + Drop, B: Ri
 ) -> io::Result<()>
     requires { IsAlive F.device host.old }
 {
+    let alloc = rt.alloc();
     let mut poll = Poll::new(rt)?;
-    let mut events = Events::with_capacity(rt.alloc(), REPORTS)?;
-    let mut acceptor = door_of(listener, settings);
-    serve_door(
-        rt,
+    let mut events = Events::with_capacity(alloc, REPORTS)?;
+    let mut acceptor = acceptor_of(listener, settings);
+    poll.registry().register(&mut acceptor.listener, Token(LISTENER), Interest::READABLE)?;
+    let mut shared = SharedState {
+        runtime: rt,
         site,
+        patience: settings.patience,
+        logs: settings.logs,
+        buffer: vec![in alloc; 0; 8192]?,
+    };
+    let mut clients = Clients {
+        by_key: Slab::new(alloc),
+        queue: VecDeque::new(alloc),
+        late: Vec::new(alloc),
+    };
+    serve_clients(
+        &mut clients,
+        &mut shared,
         host,
-        settings,
         &mut poll,
         &mut events,
         &mut acceptor,

@@ -10,7 +10,7 @@ use std::net::TcpStream;
 use std::rt::Clock;
 use std::time::{Duration, Instant};
 
-/// How many milliseconds a read may wait longer than a head may take. So the stream is told a new timeout only where that differs by more.
+/// How many milliseconds a read may wait longer than a head may take. So the stream is given a new timeout only where that differs by more.
 const SLACK_MILLIS: u64 = 20;
 
 /// When the next head is to be there: not said before it is first waited for. When bytes last came, whether any came of this head, whether a response

@@ -3,7 +3,7 @@
 ghost use Rattle.http_front.specs.Driven.{IsAlive};
 
 use crate::head_reader::{Deadline, HeadReader, ReplyWriter};
-use crate::request_log::{RequestLog, log_refused, log_unready, told_by};
+use crate::request_log::{RequestLog, log_refused, log_unready, log_where};
 use crate::system_clock::SystemClock;
 use crate::unclosed::UnclosedConns;
 use byte_streams::{CountedSource, READS, SocketSink, StdSource};
@@ -24,7 +24,7 @@ pub struct ServeSettings {
     pub at_once: usize,
     /// How long a head may take, and a write.
     pub patience: Duration,
-    /// Whether each is told on the standard error.
+    /// Whether each is written on the standard error.
     pub logs: bool,
 }
 
@@ -87,7 +87,7 @@ pub fn serve_stream<R: Clock + Eprint + AllocGlobal, F: Files + Drop, B: Rings<S
 const PAUSE_MILLIS: u64 = 100;
 
 /// Serves a connection that was taken, and gives its number on the host where that could not be closed.
-fn serve_taken<R: Clock + Eprint + AllocGlobal, F: Files + Drop, B: Rings<Stored> + Drop>(
+fn serve_accepted<R: Clock + Eprint + AllocGlobal, F: Files + Drop, B: Rings<Stored> + Drop>(
     rt: &R,
     stream: &TcpStream,
     site: &Site,
@@ -112,8 +112,8 @@ fn serve_taken<R: Clock + Eprint + AllocGlobal, F: Files + Drop, B: Rings<Stored
         }
         return None;
     }
-    let told = told_by(settings.logs, &log);
-    let outcome = serve_stream(rt, stream, site, host, &deadline, told);
+    let requests = log_where(settings.logs, &log);
+    let outcome = serve_stream(rt, stream, site, host, &deadline, requests);
     if settings.logs {
         log.log_end(outcome);
     }
@@ -125,7 +125,7 @@ fn serve_taken<R: Clock + Eprint + AllocGlobal, F: Files + Drop, B: Rings<Stored
 }
 
 /// Serves connections one after another. One that cannot be taken is none.
-pub fn serve_all<R: Clock + Eprint + AllocGlobal, F: Files + Drop, B: Rings<Stored> + Drop>(
+pub fn serve_in_order<R: Clock + Eprint + AllocGlobal, F: Files + Drop, B: Rings<Stored> + Drop>(
     rt: &R,
     listener: &TcpListener,
     site: &Site,
@@ -153,7 +153,7 @@ pub fn serve_all<R: Clock + Eprint + AllocGlobal, F: Files + Drop, B: Rings<Stor
             }
         };
         number = number.saturating_add(1);
-        if let Some(conn) = serve_taken(rt, &stream, site, host, settings, peer, number) {
+        if let Some(conn) = serve_accepted(rt, &stream, site, host, settings, peer, number) {
             left.add(conn);
         }
         left.close(host);

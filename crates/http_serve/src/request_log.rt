@@ -30,7 +30,7 @@ fn timestamp(rt: &impl Clock) -> Option<Timestamp> {
 impl fmt::Display for Moment {
     fn fmt<W: fmt::Write>(&self, f: &mut fmt::Formatter<W>) -> fmt::Result {
         match &self.0 {
-            Some(at) => write!(f, "{at}"),
+            Some(at) => write!(f, "{at:.3}"),
             None => f.write_str("-"),
         }
     }
@@ -43,13 +43,13 @@ pub fn put_line(rt: &impl Eprint, line: Result<String, AllocError>) {
     }
 }
 
-/// Tells why no connection was taken.
+/// Logs why no connection was taken.
 pub fn log_refused<R: Clock + Eprint + AllocGlobal>(rt: &R, why: &io::Error) {
     let at = Moment::now(rt);
     put_line(rt, format!(in rt.alloc(); "{at} cannot accept: {why}\n"));
 }
 
-/// Tells that a connection was taken and could not be set up.
+/// Logs that a connection was taken and could not be set up.
 pub fn log_unready<R: Clock + Eprint + AllocGlobal>(
     rt: &R,
     peer: SocketAddr,
@@ -80,7 +80,7 @@ impl fmt::Display for End {
     }
 }
 
-/// Tells the requests of a connection on the standard error.
+/// Logs the requests of a connection on the standard error.
 #[derive(Drop)]
 pub struct RequestLog<'a, R: Clock + Eprint + AllocGlobal> {
     pub runtime: &'a R,
@@ -91,8 +91,8 @@ pub struct RequestLog<'a, R: Clock + Eprint + AllocGlobal> {
     pub number: u64,
 }
 
-/// The log, where requests are told.
-pub fn told_by<'a, R: Clock + Eprint + AllocGlobal>(
+/// The log, where requests are logged.
+pub fn log_where<'a, R: Clock + Eprint + AllocGlobal>(
     logs: bool,
     log: &'a RequestLog<'a, R>,
 ) -> Option<&'a RequestLog<'a, R>> {
@@ -127,7 +127,7 @@ fn or_dash(sent: &[u8]) -> &[u8] {
 }
 
 impl<R: Clock + Eprint + AllocGlobal> RequestLog<'_, R> {
-    /// Tells a request: its method and target, the status, the bytes of the body and the microseconds since its last bytes came; and of a
+    /// Logs a request: its method and target, the status, the bytes of the body and the microseconds since its last bytes came; and of a
     /// failure the cause.
     pub fn log(&self, exchange: &Exchange<'_>) {
         let at = Moment::now(self.runtime);
@@ -145,7 +145,7 @@ impl<R: Clock + Eprint + AllocGlobal> RequestLog<'_, R> {
         put_line(self.runtime, line);
     }
 
-    /// Tells a connection: how many requests were answered, that it was idle too long, or why it ended.
+    /// Logs a connection: how many requests were answered, that it was idle too long, or why it ended.
     pub fn log_end(&self, outcome: Result<Served, FrontFault>) {
         let at = Moment::now(self.runtime);
         let peer = self.peer;

@@ -5,13 +5,13 @@ ghost use Rattle.filter_chain.specs.Safe.{IsSafe};
 ghost use Rattle.http_front.specs.Driven.{IsAlive};
 
 use crate::descriptors::{files_to_keep, too_few};
-use crate::event_loop::serve_turns;
-use crate::listening::{ServeSettings, serve_all};
+use crate::event_loop::serve_by_turns;
+use crate::listening::{ServeSettings, serve_in_order};
 use crate::site_reading::read_site;
 use bucket_kinds::DiskFiles;
 use filter_chain::{CheckedChain, Files, Host, Limits, RawRings, Rings, Stored};
 use filter_files::{
-    FileChain, ParamSetting, StartCause, StartError, read_chain, told, told_for, write_stop,
+    FileChain, ParamSetting, StartCause, StartError, read_chain, stop_for, stop_with, write_stop,
 };
 use http_message::Site;
 use module_commands::PlayFault;
@@ -42,7 +42,7 @@ pub struct ServeOptions<'a> {
     pub budget: u32,
     /// How many seconds a head may take, and a write.
     pub timeout: u32,
-    /// Whether connections are told on the standard error.
+    /// Whether connections are logged on the standard error.
     pub logs: bool,
     /// The files of the filters, the first first.
     pub modules: Vec<&'a str>,
@@ -57,7 +57,7 @@ fn address_of(options: &ServeOptions<'_>) -> Option<SocketAddr> {
 }
 
 fn cannot_listen(alloc: Global, cause: StartCause) -> StartError {
-    told_for(alloc, format!(in alloc; "cannot listen\n"), cause)
+    stop_for(alloc, format!(in alloc; "cannot listen\n"), cause)
 }
 
 fn too_few_line(alloc: Global, at_once: u32, there: u64) -> Result<String, AllocError> {
@@ -68,7 +68,7 @@ fn too_few_line(alloc: Global, at_once: u32, there: u64) -> Result<String, Alloc
 fn unless_too_few(alloc: Global, at_once: u32) -> Result<(), StartError> {
     match too_few(at_once) {
         None => Ok(()),
-        Some(there) => Err(told(alloc, too_few_line(alloc, at_once, there))),
+        Some(there) => Err(stop_with(alloc, too_few_line(alloc, at_once, there))),
     }
 }
 
@@ -92,7 +92,7 @@ where
     Ok(Host::checked(rt.alloc(), files, chain, limits)?)
 }
 
-/// Listens, and tells where.
+/// Listens. Answers the listener and its address.
 fn listen<R>(rt: &R, options: &ServeOptions<'_>) -> Result<(TcpListener, SocketAddr), StartError>
 where
     R: AllocGlobal + Net<Listener = TcpListener, Stream = TcpStream>,
@@ -107,19 +107,19 @@ where
     }
 }
 
-/// The system does not tell what is ready.
+/// The system does not report what is ready.
 fn log_events(rt: &impl Eprint) -> ExitCode {
     let _ = rt.eprintln("cannot wait for connections");
     ExitCode::FAILURE
 }
 
-/// Tells on the standard output that it listens.
-fn is_told_where<R: Print + Eprint>(rt: &R, address: SocketAddr) -> bool {
-    let told = println!(rt; "listening on {address}").is_ok();
-    if !told {
+/// Writes on the standard output where it listens. Answers whether it was written.
+fn log_address<R: Print + Eprint>(rt: &R, address: SocketAddr) -> bool {
+    let written = println!(rt; "listening on {address}").is_ok();
+    if !written {
         let _ = rt.eprintln(PlayFault::Write);
     }
-    told
+    written
 }
 
 /// Warns where a brigade of the most bytes may take more instructions than a call may.
@@ -155,37 +155,17 @@ fn serve_listener<R: Clock + Eprint + AllocGlobal + Net, F: Files + Drop, B: Rin
     requires { IsAlive F.device host.old }
 {
     if settings.at_once <= 1 {
-        serve_all(rt, &listener, site, host, settings);
+        serve_in_order(rt, &listener, site, host, settings);
         return ExitCode::SUCCESS;
     }
     if listener.set_nonblocking(true).is_err() {
         return log_events(rt);
     }
     let acceptor = mio::net::TcpListener::from_std(listener);
-    match serve_turns(rt, acceptor, site, host, settings) {
+    match serve_by_turns(rt, acceptor, site, host, settings) {
         Ok(()) => ExitCode::SUCCESS,
         Err(_) => log_events(rt),
     }
-}
-
-/// Serves connections that come to a listener, and tells first that it listens.
-fn serve_behind<R, F: Files + Drop, B: Rings<Stored> + Drop>(
-    rt: &R,
-    options: &ServeOptions<'_>,
-    host: &mut Host<F, B>,
-    site: &Site,
-    listener: TcpListener,
-    address: SocketAddr,
-) -> ExitCode
-where
-    R: Clock + Print + Eprint + AllocGlobal + Net<Listener = TcpListener, Stream = TcpStream>,
-    requires alive { IsAlive F.device host.old }
-    requires safe { IsSafe host.old }
-{
-    if !is_told_where(rt, address) {
-        return ExitCode::FAILURE;
-    }
-    serve_listener(rt, host, site, listener, settings_of(options))
 }
 
 /// Listens, and serves what comes: what listens has a host of a chain that is accepted, which never faults.
@@ -201,25 +181,12 @@ where
     requires safe { IsSafe host.old }
 {
     match listen(rt, options) {
-        Ok((listener, address)) => serve_behind(rt, options, host, site, listener, address),
+        Ok((listener, address)) if log_address(rt, address) => {
+            serve_listener(rt, host, site, listener, settings_of(options))
+        }
+        Ok(_) => ExitCode::FAILURE,
         Err(why) => write_stop(rt, why),
     }
-}
-
-/// Serves a site through a chain that was accepted.
-fn serve_chain<R, B>(
-    rt: &R,
-    options: &ServeOptions<'_>,
-    chain: CheckedChain,
-    site: &Site,
-) -> Result<ExitCode, StartError>
-where
-    R: Runtime + AllocGlobal + Net<Listener = TcpListener, Stream = TcpStream>,
-    R::File: FileExt,
-    B: Rings<Stored> + Drop,
-{
-    let mut host = host_of::<R, B>(rt, options, chain)?;
-    Ok(serve_site(rt, options, &mut host, site))
 }
 
 /// Reads and checks the chain, reads the site, and serves it.
@@ -234,10 +201,11 @@ where
     let FileChain { chain, per_byte } = read_chain(rt, options.modules.as_slice(), settings)?;
     let site = read_site(rt, options.site)?;
     warn_of_budget(rt, per_byte, options.budget);
-    serve_chain::<R, B>(rt, options, chain, &site)
+    let mut host = host_of::<R, B>(rt, options, chain)?;
+    Ok(serve_site(rt, options, &mut host, &site))
 }
 
-/// Serves connections behind a port. What it tells goes to the standard output, and what it logs to the standard error. It fails where the chain
+/// Serves connections behind a port. What it writes goes to the standard output, and what it logs to the standard error. It fails where the chain
 /// or the site is none, where the port is not to be had, and where the standard output fails; a connection that fails ends alone.
 pub fn run_serve<R>(rt: &R, options: &mut ServeOptions<'_>) -> ExitCode
 where

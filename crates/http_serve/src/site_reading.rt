@@ -2,7 +2,7 @@
 
 use byte_streams::{READ_BYTES, READS};
 use byte_text::{TextLine, first_line};
-use filter_files::{StartCause, StartError, cannot_read, told_for};
+use filter_files::{StartCause, StartError, cannot_read, stop_for};
 use http_message::{SITE_BYTES, Site, SiteFault, SiteRefusal, site_line, site_of};
 use module_commands::NamedFile;
 use std::alloc::Global;
@@ -66,14 +66,14 @@ pub fn read_site<R: FileSystem + AllocGlobal>(rt: &R, name: &str) -> Result<Site
     let alloc = rt.alloc();
     let text = read_site_text(rt, name)?;
     if text.len() > SITE_BYTES {
-        return Err(unread_site(alloc, name, true, StartCause::Told));
+        return Err(unread_site(alloc, name, true, StartCause::InLine));
     }
     match site_of(alloc, text.as_slice()) {
         Ok(site) => Ok(site),
         Err(SiteRefusal::Line(number)) => {
             let words = line_fault(alloc, line_at(text.as_slice(), number));
             let line = format!(in alloc; "site line {number}\n");
-            Err(told_for(alloc, line, StartCause::Words(words)))
+            Err(stop_for(alloc, line, StartCause::Words(words)))
         }
         Err(SiteRefusal::NoMemory) => Err(StartError::NoMemory),
     }

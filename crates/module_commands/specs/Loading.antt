@@ -16,12 +16,12 @@ use Rattle.module_commands.specs.TextAnswers.{TellsAsmFault, TellsCertFault}
 abbrev pub IsLoadedWith : List ℕ → Program → Loaded → Type 0
 IsLoadedWith certificate p (loaded.Part x) =
     (c : Cert) × IsCertText certificate c.version c.slim (seen_cert c) × (seen_part x ≡ record { code = p; cert = Some c })
-IsLoadedWith certificate p (loaded.Told a) = (r : CertRefusal) × IsReported certificate r × TellsCertFault r a.text.items a.ended
+IsLoadedWith certificate p (loaded.Refused a) = (r : CertRefusal) × IsReported certificate r × TellsCertFault r a.text.items a.ended
 
 abbrev pub IsLoadedOf : List ℕ → Result Program AsmRefusal → Loaded → Type 0
 IsLoadedOf certificate (Ok p) l = IsLoadedWith certificate p l
 IsLoadedOf certificate (Err r) (loaded.Part x) = ⊥
-IsLoadedOf certificate (Err r) (loaded.Told a) = TellsAsmFault r a.text.items a.ended
+IsLoadedOf certificate (Err r) (loaded.Refused a) = TellsAsmFault r a.text.items a.ended
 
 -- two texts: a module with its certificate, or the line of the first fault
 abbrev pub IsLoaded : List ℕ → List ℕ → Loaded → Type 0

@@ -12,7 +12,7 @@ use byte_streams::{CountedSource, READS, Sink, Source};
 use std::alloc::Global;
 
 /// Reads a module text to its end, and then a certificate text, and writes `accepted` where the module is accepted with that
-/// certificate, else `refused at PC: RULE`. A text that is none is told by `asm line L code C` or `cert line L code C`; where the
+/// certificate, else `refused at PC: RULE`. A text that is none is reported by `asm line L code C` or `cert line L code C`; where the
 /// first is no module the second is not read.
 ///
 /// `Read`: a reader failed, or gave no end within 1,000,000 reads of at most 8192 bytes. `NoMemory`: there was none for the texts,

@@ -22,7 +22,7 @@ pub enum Loaded {
     /// A module and its certificate, not checked.
     Part(ScriptModule),
     /// A text that is none, and the line that tells it.
-    Told(CommandOutput),
+    Refused(CommandOutput),
 }
 
 /// A module with the certificate that a text says.
@@ -34,7 +34,7 @@ fn with_cert(alloc: Global, code: Module, text: &[u8]) -> Result<Loaded, AllocEr
             code,
             cert: Some(cert),
         })),
-        Err(refusal) => Ok(Loaded::Told(cert_fault(alloc, refusal)?)),
+        Err(refusal) => Ok(Loaded::Refused(cert_fault(alloc, refusal)?)),
     }
 }
 
@@ -64,7 +64,7 @@ fn load_text<S: Source>(
 {
     match assemble(alloc, text) {
         Ok(code) => load_next(alloc, code, cert),
-        Err(refusal) => Ok(Loaded::Told(asm_fault(alloc, refusal)?)),
+        Err(refusal) => Ok(Loaded::Refused(asm_fault(alloc, refusal)?)),
     }
 }
 

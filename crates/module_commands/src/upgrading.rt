@@ -13,7 +13,7 @@ use std::alloc::Global;
 
 /// Reads a module text to its end, and then a certificate text, and writes the text of the same certificate in version 2, full or slim as it
 /// was, where it is of version 1 and the module is accepted with it; `already version 2` where it is of version 2; else `refused at PC: RULE`.
-/// A text that is none is told by `asm line L code C` or `cert line L code C`; where the first is no module the second is not read.
+/// A text that is none is reported by `asm line L code C` or `cert line L code C`; where the first is no module the second is not read.
 ///
 /// `Read`: a reader failed, or gave no end within 1,000,000 reads of at most 8192 bytes. `NoMemory`: there was none for the texts,
 /// the module, the certificate or the answer. Both write nothing. `Write`: the writer failed, and what it took is the front of the

@@ -15,12 +15,12 @@ loop-conn-preserved g c =
       opened = c.answer_next.ensures.open;
       beside = λ from so. c.answer_next.ensures.beside from (inv.beside from so);
       few = λ going. let one = e.few going in let all = inv.few at.0 in omega (arith, one, all);
-      whole = c.answer_next.ensures.whole ∙ inv.whole;
+      eof = c.answer_next.ensures.eof ∙ inv.eof;
       written = c.answer_next.ensures.written;
-      needs_input = λ is. let w = e.needs_input is in (c.answer_next.ensures.whole ∙ w.0, w.1);
+      needs_input = λ is. let w = e.needs_input is in (c.answer_next.ensures.eof ∙ w.0, w.1);
       sound = e.blames ∙ inv.sound;
       goes = λ old before r q w ends so.
-          e.goes old before r q w (λ is. ends (sym inv.whole ∙ is)) (subst (λ (b : Bool). ServeStanding c.args.site.now (λ h. g.H.Handler.handles h c.args.number) g.K.Clock.tells old before r q w
+          e.goes old before r q w (λ is. ends (sym inv.eof ∙ is)) (subst (λ (b : Bool). ServeStanding c.args.site.now (λ h. g.H.Handler.handles h c.args.number) g.K.Clock.tells old before r q w
           (g.W.Sink.contents c.loop-conn.sink) b (unread c.loop-conn.conn.read_buffer) c.loop-conn.conn.requests c.loop-conn.handler c.loop-conn.clock) at.0 (inv.goes old before r q w ends so));
     }
 
@@ -32,6 +32,6 @@ returns-in_err-answer_next-in_default-clause-goes g c old before r q w ends so =
     fails_as c.args.site.now (λ h. g.H.Handler.handles h c.args.number) g.K.Clock.tells (λ h. g.H.Handler.lacks h c.args.number) old before r q w
     (g.W.Sink.contents c.answer_next.new.sink) c.answer_next.new.conn.over (unread c.answer_next.new.conn.read_buffer) c.answer_next.new.conn.requests
     c.answer_next.new.handler c.answer_next.new.clock c.from_residual.result p.0 c.in_err-answer_next-in_default.field-0.0 p.1 p.2
-    (c.in_err-answer_next-in_default.ensures.goes old before r q w (λ is. ends (sym inv.whole ∙ is))
+    (c.in_err-answer_next-in_default.ensures.goes old before r q w (λ is. ends (sym inv.eof ∙ is))
     (subst (λ (b : Bool). ServeStanding c.args.site.now (λ h. g.H.Handler.handles h c.args.number) g.K.Clock.tells old before r q w
     (g.W.Sink.contents c.loop-conn.sink) b (unread c.loop-conn.conn.read_buffer) c.loop-conn.conn.requests c.loop-conn.handler c.loop-conn.clock) at.0 (inv.goes old before r q w ends so)))

@@ -12,11 +12,11 @@ invariant-loop-conn g l = record {
   opened : g.H.Handler.is_open l.handler l.fn.number;
   beside : (from : g.row.H.Denot) → g.H.Handler.beside from l.fn.number l.fn.handler → g.H.Handler.beside from l.fn.number l.handler;
   few : l.conn.over ≡ false → l.conn.requests + length (unread l.conn.read_buffer) ≤ l.fn.conn.requests + length (unread l.fn.conn.read_buffer);
-  whole : l.conn.whole ≡ l.fn.conn.whole;
+  eof : l.conn.eof ≡ l.fn.conn.eof;
   written : pending l.conn ≡ [];
-  needs_input : l.conn.needs_input ≡ true → (l.conn.whole ≡ false) × WantsMore (unread l.conn.read_buffer);
+  needs_input : l.conn.needs_input ≡ true → (l.conn.eof ≡ false) × WantsMore (unread l.conn.read_buffer);
   sound : g.W.Sink.failed l.sink ≡ g.W.Sink.failed l.fn.sink;
-  goes : (old : g.row.H.Denot) (before : g.row.K.Denot) (r q w : Option (List ℕ)) → (l.fn.conn.whole ≡ true → IsAtEnd q)
+  goes : (old : g.row.H.Denot) (before : g.row.K.Denot) (r q w : Option (List ℕ)) → (l.fn.conn.eof ≡ true → IsAtEnd q)
       → ServedSoFar l.site (λ h. g.H.Handler.handles h l.fn.number) g.K.Clock.tells old before r q w (g.W.Sink.contents l.fn.sink) (unread l.fn.conn.read_buffer) l.fn.conn.requests l.fn.handler l.fn.clock
       → ServeStanding l.site (λ h. g.H.Handler.handles h l.fn.number) g.K.Clock.tells old before r q w (g.W.Sink.contents l.sink) l.conn.over (unread l.conn.read_buffer) l.conn.requests l.handler l.clock;
 }

@@ -14,11 +14,11 @@ use Rattle.http_front.proofs.serving.answer_next.Goals as goal
 -- what the slice did is a step, since no request is ever under way
 made : (g : Over) (c : goal.After-put_all g)
     → (s : ServeStep) × DoesStep c.args.site.now (λ h. g.H.Handler.handles h c.args.number) g.K.Clock.tells c.args.handler.now c.args.clock.now (unread c.args.conn.now.read_buffer)
-    c.args.conn.now.whole s (pending c.step.new.self) c.step.new.handler c.step.new.clock × StepFollows s c.args.conn.now c.step.new.self
+    c.args.conn.now.eof s (pending c.step.new.self) c.step.new.handler c.step.new.clock × StepFollows s c.args.conn.now c.step.new.self
 made g c =
     let did = c.in_ok-step.ensures.did in
     slice_step c.args.site.now (λ h. g.H.Handler.handles h c.args.number) (λ h k o z. ⊥) g.K.Clock.tells
-    (λ t. elim t [ ]) c.args.conn.now.hand did.0 c.args.conn.now c.step.new.self (unread c.args.conn.now.read_buffer) c.args.conn.now.whole c.args.handler.now
+    (λ t. elim t [ ]) c.args.conn.now.hand did.0 c.args.conn.now c.step.new.self (unread c.args.conn.now.read_buffer) c.args.conn.now.eof c.args.handler.now
     c.step.new.handler c.args.clock.now c.step.new.clock (pending c.step.new.self) did.1 did.2
 
 pub returns-clause-goes : goal.returns-clause-goes
@@ -38,9 +38,9 @@ returns-in_err-step-clause-goes g c old before r q w ends so =
     fails_as c.args.site.now (λ h. g.H.Handler.handles h c.args.number) g.K.Clock.tells (λ h. g.H.Handler.lacks h c.args.number) old before r q w
     (g.W.Sink.contents c.args.sink.now) c.step.new.self.over (unread c.step.new.self.read_buffer) c.step.new.self.requests c.step.new.handler c.step.new.clock c.from_residual.result p.0 e p.1 p.2
     (far_lacks_by c.args.site.now (λ h. g.H.Handler.handles h c.args.number) g.K.Clock.tells (λ h. g.H.Handler.lacks h c.args.number) old before r q w
-    (g.W.Sink.contents c.args.sink.now) (unread c.args.conn.now.read_buffer) c.args.conn.now.whole c.args.conn.now.requests c.args.handler.now c.step.new.handler c.args.clock.now c.step.new.clock e so ends
+    (g.W.Sink.contents c.args.sink.now) (unread c.args.conn.now.read_buffer) c.args.conn.now.eof c.args.conn.now.requests c.args.handler.now c.step.new.handler c.args.clock.now c.step.new.clock e so ends
     (slice_lacks c.args.site.now (λ h. g.H.Handler.lacks h c.args.number) (λ h k o z. ⊥)
-    (λ t. elim t [ ]) c.args.conn.now.hand c.args.handler.now c.step.new.handler (unread c.args.conn.now.read_buffer) c.args.conn.now.whole e c.in_err-step.ensures.lacks))
+    (λ t. elim t [ ]) c.args.conn.now.hand c.args.handler.now c.step.new.handler (unread c.args.conn.now.read_buffer) c.args.conn.now.eof e c.in_err-step.ensures.lacks))
 
 pub returns-clause-few : goal.returns-clause-few
 returns-clause-few g c =
@@ -52,7 +52,7 @@ pub returns-clause-less : goal.returns-clause-less
 returns-clause-less g c =
     let x = made g c in
     less_put c.put_all.result c.args.conn.now c.step.new.self c.put_all.new.self c.put_all.ensures.over c.put_all.ensures.needs_input c.put_all.ensures.read_buffer c.put_all.ensures.requests
-    (step_less x.0 c.args.conn.now c.step.new.self c.requires.going c.requires.ready x.2 (stays_some c.args.site.now _ _ x.0 (unread c.args.conn.now.read_buffer) c.args.conn.now.whole _ _ _ _ _ x.1))
+    (step_less x.0 c.args.conn.now c.step.new.self c.requires.going c.requires.ready x.2 (stays_some c.args.site.now _ _ x.0 (unread c.args.conn.now.read_buffer) c.args.conn.now.eof _ _ _ _ _ x.1))
 
 pub returns-clause-needs_input : goal.returns-clause-needs_input
 returns-clause-needs_input g c =

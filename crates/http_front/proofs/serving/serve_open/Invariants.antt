@@ -16,7 +16,7 @@ invariant-loop-conn g l = record {
   room : length l.buffer ≡ 8192;
   going : l.conn.over ≡ false;
   written : pending l.conn ≡ [];
-  more : l.conn.whole ≡ false;
+  more : l.conn.eof ≡ false;
   far : ServedSoFar l.site (λ h. g.H.Handler.handles h l.number) g.K.Clock.tells l.fn.handler l.fn.clock (g.R.Source.remaining (source_of l.fn.reader))
       (g.R.Source.remaining (source_of l.reader)) (g.W.Sink.contents l.fn.sink) (g.W.Sink.contents l.sink) (unread l.conn.read_buffer) l.conn.requests l.handler l.clock;
   needs_input : WantsMore (unread l.conn.read_buffer);

@@ -8,11 +8,11 @@ use Rattle.http_front.proofs.BeginLaws.{found_does, found_works}
 use Rattle.http_front.proofs.step_slices.begin_head.Goals as goal
 
 pub returns-in_ok-step-in-Done-clause-ok : goal.returns-in_ok-step-in-Done-clause-ok
-returns-in_ok-step-in-Done-clause-ok g c whole =
-    subst (λ h. DoesStep c.args.site.now (λ old. g.P.Pace.comes old c.args.number) g.K.Clock.tells c.args.handler.now c.args.clock.now c.args.seen.now whole
+returns-in_ok-step-in-Done-clause-ok g c eof =
+    subst (λ h. DoesStep c.args.site.now (λ old. g.P.Pace.comes old c.args.number) g.K.Clock.tells c.args.handler.now c.args.clock.now c.args.seen.now eof
     c.in_ok-step-in-Done.step (text_of c.send.new.text) h c.send.new.clock) (sym c.in_ok-step-in-Done.ensures.still)
     (found_does c.args.site.now (λ old. g.P.Pace.comes old c.args.number) (λ old. g.P.Pace.rests old c.args.number) g.K.Clock.tells c.args.clock.now
-    c.send.new.clock c.args.seen.now c.args.spans.now whole c.args.head c.asked_by-asked.result c.in-Done.outcome c.args.handler.now c.begin_wanted.new.handler
+    c.send.new.clock c.args.seen.now c.args.spans.now eof c.args.head c.asked_by-asked.result c.in-Done.outcome c.args.handler.now c.begin_wanted.new.handler
     c.in_ok-step-in-Done.step (text_of c.send.new.text) c.requires.within c.requires.room c.requires.found c.asked_by-asked.ensures.head c.asked_by-asked.ensures.by
     (subst (λ x. BeginsHead c.args.site.now (λ old. g.P.Pace.comes old c.args.number)
     (λ old. g.P.Pace.rests old c.args.number) c.requires.found.0 c.args.handler.now x c.begin_wanted.new.handler) c.in-Done.is
@@ -20,7 +20,7 @@ returns-in_ok-step-in-Done-clause-ok g c whole =
     (c.asked_by-asked.ensures.by c.requires.found.0 c.requires.found.1).method)) c.in_ok-step-in-Done.ensures.ok)
 
 pub returns-in-Works-clause-ok : goal.returns-in-Works-clause-ok
-returns-in-Works-clause-ok g c whole = (
+returns-in-Works-clause-ok g c eof = (
   found_works c.args.site.now (λ old. g.P.Pace.comes old c.args.number) (λ old. g.P.Pace.rests old c.args.number) c.args.seen.now c.args.spans.now c.args.head
       c.asked_by-asked.result c.in-Works.task c.args.handler.now c.begin_wanted.new.handler c.requires.within c.requires.room c.requires.size c.requires.found
       c.asked_by-asked.ensures.head c.asked_by-asked.ensures.by (subst (λ x. BeginsHead c.args.site.now (λ old. g.P.Pace.comes old c.args.number)

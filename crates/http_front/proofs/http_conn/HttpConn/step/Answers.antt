@@ -34,14 +34,14 @@ returns-in_err-slice g c =
       beside = o.beside;
       clock = o.clock;
       did = tt;
-      whole = refl;
+      eof = refl;
       none = c.in_err-slice.ensures.none;
       sent = refl;
       lacks =
           lack_as c.args.site.now (λ old. g.H.Handler.lacks old c.args.number) (λ old. g.P.Pace.lacks_rest old c.args.number) c.args.handler.now c.step_on-did.new.handler
-          c.take-hand.result c.args.self.now.hand c.unread-seen.result.now (unread c.args.self.now.read_buffer) c.args.self.now.whole e c.take-hand.ensures.value c.unread-seen.ensures
+          c.take-hand.result c.args.self.now.hand c.unread-seen.result.now (unread c.args.self.now.read_buffer) c.args.self.now.eof e c.take-hand.ensures.value c.unread-seen.ensures
           (sized_lack c.args.site.now (λ old. g.H.Handler.lacks old c.args.number) (λ old. g.P.Pace.lacks_rest old c.args.number) c.args.handler.now
-          c.step_on-did.new.handler c.unread-seen.result.now c.args.self.now.whole (λ old. g.P.Pace.comes old c.args.number)
+          c.step_on-did.new.handler c.unread-seen.result.now c.args.self.now.eof (λ old. g.P.Pace.comes old c.args.number)
           (λ old. g.P.Pace.rests old c.args.number) g.K.Clock.tells c.args.clock.now c.step_on-did.new.clock
           (text_of c.step_on-did.new.text) c.take-hand.result c.step_on-did.result e o.ok o.err c.in_err-slice.ensures.err);
       few = subst (λ h. g.P.Pace.steps c.args.handler.now c.args.number (most_steps h) c.step_on-did.new.handler) c.take-hand.ensures.value o.few;

@@ -96,13 +96,13 @@ pub returns-in_default-clause-source : goal.returns-in_default-clause-source
 returns-in_default-clause-source g c =
     source_lack _ _ refl _ c.step.result (IfErr-weaker c.step.result _ _
     (λ e how. slice_lack c.args.site.now (λ old. g.H.Handler.lacks old c.args.number) (λ old. g.H.Handler.lacks_rest old c.args.number) c.args.handler.now
-    c.step.new.handler (unread c.args.self.now.read_buffer) c.args.self.now.whole c.args.self.now.hand e how) c.step.ensures.lacks)
+    c.step.new.handler (unread c.args.self.now.read_buffer) c.args.self.now.eof c.args.self.now.hand e how) c.step.ensures.lacks)
 
 pub returns-in_default-clause-sink : goal.returns-in_default-clause-sink
 returns-in_default-clause-sink g c =
     sink_lack _ _ refl c.step.result (IfErr-weaker c.step.result _ _
     (λ e how. slice_lack c.args.site.now (λ old. g.H.Handler.lacks old c.args.number) (λ old. g.H.Handler.lacks_rest old c.args.number) c.args.handler.now
-    c.step.new.handler (unread c.args.self.now.read_buffer) c.args.self.now.whole c.args.self.now.hand e how) c.step.ensures.lacks)
+    c.step.new.handler (unread c.args.self.now.read_buffer) c.args.self.now.eof c.args.self.now.hand e how) c.step.ensures.lacks)
 
 pub returns-in-Writes-clause-few : goal.returns-in-Writes-clause-few
 returns-in-Writes-clause-few g c =
@@ -130,11 +130,11 @@ returns-in-Reads-clause-counted g c = count_kept c.take_in.result c.args.self.no
 pub returns-in_default-clause-needs_input : goal.returns-in_default-clause-needs_input
 returns-in_default-clause-needs_input g c =
     wants_made c.args.self.now c.step.new.self c.args.site.now (λ old. g.H.Handler.among old c.args.number)
-    (λ old. g.H.Handler.rests old c.args.number) g.K.Clock.tells c.args.handler.now c.step.new.handler c.args.clock.now c.step.new.clock c.args.self.now.whole
+    (λ old. g.H.Handler.rests old c.args.number) g.K.Clock.tells c.args.handler.now c.step.new.handler c.args.clock.now c.step.new.clock c.args.self.now.eof
     (pending c.step.new.self) c.step.result c.step.ensures.did
 
 pub returns-in_default-clause-counted : goal.returns-in_default-clause-counted
 returns-in_default-clause-counted g c =
     counts_made c.args.self.now c.step.new.self c.args.site.now (λ old. g.H.Handler.among old c.args.number)
-    (λ old. g.H.Handler.rests old c.args.number) g.K.Clock.tells c.args.handler.now c.step.new.handler c.args.clock.now c.step.new.clock c.args.self.now.whole
+    (λ old. g.H.Handler.rests old c.args.number) g.K.Clock.tells c.args.handler.now c.step.new.handler c.args.clock.now c.step.new.clock c.args.self.now.eof
     (pending c.step.new.self) c.step.result c.step.ensures.did
