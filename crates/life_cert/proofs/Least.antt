@@ -10,7 +10,7 @@ use Rattle.life_state.specs.States.{State}
 use Rattle.life_state.specs.Order.{leq, join}
 use Rattle.life_state.specs.Rules.{Edges, rule, at_open, at_main, at_return, at_end_of_request}
 use Rattle.life_state.specs.Form.{IsFormed}
-use Rattle.life_state.specs.Monotone.{edge_le, LeadsBelow}
+use Rattle.life_state.specs.Monotone.{edge_leq, LeadsBelow}
 use Rattle.life_state.proofs.JoinLeast.{join_least}
 use Rattle.life_state.proofs.WithinRules.{rules_are_monotone, entries_are_monotone}
 use Rattle.life_check.specs.Certificates.{Certificate, AreFormed}
@@ -42,7 +42,7 @@ formed_at c f (place.At pc) = f.at pc
 module _ (p : Program) (c : Certificate) (typed : IsTyped p c) (formed : AreFormed c) where
   -- What is handed on.
 
-  edge_under : (w : StatePlace) (o q : Option State) → edge_le o q ≡ true → flows q (state_at c w) ≡ true → All (CertUnder c) (arriving w o)
+  edge_under : (w : StatePlace) (o q : Option State) → edge_leq o q ≡ true → flows q (state_at c w) ≡ true → All (CertUnder c) (arriving w o)
   edge_under w None q le h = All-nil (CertUnder c)
   edge_under w (Some a) None le h = absurd (clash le)
   edge_under w (Some a) (Some b) le h = All-cons (CertUnder c) (record { place = w; state = a }) [] (below_trans a b (state_at c w) le h) (All-nil (CertUnder c))
@@ -79,14 +79,14 @@ module _ (p : Program) (c : Certificate) (typed : IsTyped p c) (formed : AreForm
   by_under : (w : StatePlace) (s : State) (q : Option State) → state_at c w ≡ q → IsFormed s → is_below s q ≡ true → All (CertUnder c) (handed_by p w (Some s))
   by_under w s None e f h = absurd (clash h)
   by_under place.Idle s (Some t) e f le =
-      edge_under (place.At p.init) (Some s) c.idle (ap (edge_le (Some s)) e ∙ le) typed.inits
+      edge_under (place.At p.init) (Some s) c.idle (ap (edge_leq (Some s)) e ∙ le) typed.inits
   by_under place.Ready s (Some t) e f le =
       let g : IsFormed t = subst (λ (o : Option State). IfSome o IsFormed) e formed.ready in
       All-append (CertUnder c) (arriving (place.At p.main) (Some (at_main s))) (arriving place.Idle (Some (at_end_of_request p s)))
       (edge_under (place.At p.main) (Some (at_main s)) (main_from c.ready)
-      (ap (λ (o : Option State). edge_le (Some (at_main s)) (main_from o)) e ∙ entries_are_monotone.serves s t f g le) typed.serves)
+      (ap (λ (o : Option State). edge_leq (Some (at_main s)) (main_from o)) e ∙ entries_are_monotone.serves s t f g le) typed.serves)
       (edge_under place.Idle (Some (at_end_of_request p s)) (request_end p c.ready)
-      (ap (λ (o : Option State). edge_le (Some (at_end_of_request p s)) (request_end p o)) e ∙ entries_are_monotone.ends p s t f g le) typed.requests)
+      (ap (λ (o : Option State). edge_leq (Some (at_end_of_request p s)) (request_end p o)) e ∙ entries_are_monotone.ends p s t f g le) typed.requests)
   by_under (place.At pc) s (Some t) e f le = line_under pc s t (slice_get p.code pc) refl e f (subst (λ (o : Option State). IfSome o IsFormed) e (formed.at pc)) le
 
   handed_under : (w : StatePlace) (o : Option State) → ((s : State) → o ≡ Some s → IsFormed s × (is_below s (state_at c w) ≡ true)) → All (CertUnder c) (handed_by p w o)

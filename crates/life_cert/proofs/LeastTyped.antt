@@ -10,7 +10,7 @@ use Rattle.run_model.specs.declared.fault.FaultKind.{FaultKind}
 use Rattle.run_model.proofs.Updates.{upd_at}
 use Rattle.life_state.specs.States.{Unset, State}
 use Rattle.life_state.specs.Facts.{is_set, moved}
-use Rattle.life_state.specs.Order.{leq, join, both_cursors, kept_cursor, joined_brigades}
+use Rattle.life_state.specs.Order.{leq, join, cursor_join, kept_cursor, joined_brigades}
 use Rattle.life_state.specs.PoolOrder.{is_under}
 use Rattle.life_state.specs.Rules.{Edges, rule, cleared_cursor, cleared_under, at_open, at_main, at_return, at_end_of_request}
 use Rattle.life_state.specs.Form.{IsFormed}
@@ -89,8 +89,8 @@ on_bare p c [] h = All-nil IsBareArrival
 on_bare p c (w ∷ ws) h = All-append IsBareArrival (handed_by p w (state_at c w)) (handed_on p c ws) (by_bare p w (state_at c w) (h w)) (on_bare p c ws h)
 
 joined_unset : (s t : State) (k : ℕ) → s.cursors k ≡ Unset → t.cursors k ≡ Unset → (join s t).cursors k ≡ Unset
-unfolding join both_cursors
-joined_unset s t k a b = ap₂ (λ x y. kept_cursor (joined_brigades s t) (both_cursors x y)) a b
+unfolding join cursor_join
+joined_unset s t k a b = ap₂ (λ x y. kept_cursor (joined_brigades s t) (cursor_join x y)) a b
 
 joined_bare : (w : StatePlace) (s t : State) → BareState w s → BareState w t → BareState w (join s t)
 joined_bare place.Idle s t f g = λ k. joined_unset s t k (f k) (g k)

@@ -78,11 +78,11 @@ lines_joined two at pc (suc n) = by (said two at pc (at pc)) (lines_joined two a
         ap (λ t. line ++ 10 ∷ t) others
         ∙ sym (append_assoc (said_line pc (Some text)) rest (codes "end\n") ∙ ap (λ t. t ++ (rest ++ codes "end\n")) same ∙ append_assoc line (10 ∷ []) (rest ++ codes "end\n"))
 
-head_joined : (two slim : Bool) (x y : List ℕ) → x ≡ y → head_line two slim ++ (10 ∷ x) ≡ first_line two slim ++ y
-head_joined false false x y e = ap (λ t. codes "cert 1\n" ++ t) e
-head_joined false true x y e = ap (λ t. codes "slim 1\n" ++ t) e
-head_joined true false x y e = ap (λ t. codes "cert 2 full\n" ++ t) e
-head_joined true true x y e = ap (λ t. codes "cert 2 slim\n" ++ t) e
+head_concat : (two slim : Bool) (x y : List ℕ) → x ≡ y → head_line two slim ++ (10 ∷ x) ≡ first_line two slim ++ y
+head_concat false false x y e = ap (λ t. codes "cert 1\n" ++ t) e
+head_concat false true x y e = ap (λ t. codes "slim 1\n" ++ t) e
+head_concat true false x y e = ap (λ t. codes "cert 2 full\n" ++ t) e
+head_concat true true x y e = ap (λ t. codes "cert 2 slim\n" ++ t) e
 
 shape_joined : (v : CertVersion) (ls : List (List ℕ)) (y : List ℕ) → joined ls ≡ y → joined (with_shape v ls) ≡ (vars_line v ++ code_line v) ++ y
 shape_joined version.One ls y e = e
@@ -109,7 +109,7 @@ pub cert_joined : (v : CertVersion) (slim : Bool) (c : Certificate) → joined (
 unfolding cert_text
 cert_joined v slim c =
     let rest = between_line (codes "idle ") c.idle ++ (between_line (codes "ready ") c.ready ++ (each 0 c.lines (pc_line (is_two v) c.at) ++ codes "end\n")) in
-    head_joined (is_two v) slim (joined (with_shape v (state_lines (is_two v) c))) ((vars_line v ++ code_line v) ++ rest) (shape_joined v (state_lines (is_two v) c) rest (states_joined (is_two v) c))
+    head_concat (is_two v) slim (joined (with_shape v (state_lines (is_two v) c))) ((vars_line v ++ code_line v) ++ rest) (shape_joined v (state_lines (is_two v) c) rest (states_joined (is_two v) c))
     ∙ sym (append_assoc (first_line (is_two v) slim) (vars_line v ++ code_line v) rest)
 
 abbrev pub AreClean : List (List ℕ) → Type 0

@@ -6,7 +6,7 @@ use Rattle.module_code.specs.declared.instr.PoolRef.TheVariants as pool
 use Rattle.life_state.specs.declared.parts.Classes.{Classes}
 use Rattle.life_state.specs.declared.parts.PoolState.{PoolState}
 use Rattle.life_state.specs.States.{Homes, BrigadeKnown, CursorKnown, Unset, Loose, In, End, InOrEnd, State}
-use Rattle.life_state.specs.Order.{implies, all_below, rank, content_le, classes_le, pool_le, homes_le, variable_le, marks_le, brigade_le, cursor_le, leq}
+use Rattle.life_state.specs.Order.{implies, all_below, rank, content_leq, classes_leq, pool_leq, homes_leq, variable_leq, marks_leq, brigade_leq, cursor_leq, leq}
 use Rattle.life_state.specs.Laws.{Below}
 use Rattle.life_state.proofs.Tests.{split2, split3, all_at}
 use Rattle.life_state.proofs.OrderLaws.{leq_says}
@@ -38,13 +38,13 @@ three_same a b c x y z p q =
     let third = digits_same c z up.2 down.2 in
     omega (arith, first, second, third)
 
-pools_same : (a b : PoolState) → pool_le a b ≡ true → pool_le b a ≡ true → pool_number a ≡ pool_number b
+pools_same : (a b : PoolState) → pool_leq a b ≡ true → pool_leq b a ≡ true → pool_number a ≡ pool_number b
 pools_same a b = three_same a.null a.gone a.live b.null b.gone b.live
 
-classes_same : (a b : Classes) → classes_le a b ≡ true → classes_le b a ≡ true → classes_number a ≡ classes_number b
+classes_same : (a b : Classes) → classes_leq a b ≡ true → classes_leq b a ≡ true → classes_number a ≡ classes_number b
 classes_same a b = three_same a.bytes a.flush a.eos b.bytes b.flush b.eos
 
-homes_same : (a b : Homes) → homes_le a b ≡ true → homes_le b a ≡ true → homes_number a ≡ homes_number b
+homes_same : (a b : Homes) → homes_leq a b ≡ true → homes_leq b a ≡ true → homes_number a ≡ homes_number b
 homes_same a b p q =
     let own : ℕ → Bool = λ i. implies (a.at (pool.Own i)) (b.at (pool.Own i)) in
     let back : ℕ → Bool = λ i. implies (b.at (pool.Own i)) (a.at (pool.Own i)) in
@@ -70,13 +70,13 @@ homes_same a b p q =
 ranks_same : (m n : ℕ) → nat_le m n ≡ true → nat_le n m ≡ true → m ≡ n
 ranks_same m n p q = let up = leb-true m n p in let down = leb-true n m q in omega (arith, up, down)
 
-brigades_same : (a b : BrigadeKnown) → brigade_le a b ≡ true → brigade_le b a ≡ true → brigade_number a ≡ brigade_number b
-unfolding brigade_le brigade_number
+brigades_same : (a b : BrigadeKnown) → brigade_leq a b ≡ true → brigade_leq b a ≡ true → brigade_number a ≡ brigade_number b
+unfolding brigade_leq brigade_number
 brigades_same a b p q =
-    let up = split2 (variable_le a b && marks_le a b && content_le a.content b.content) (homes_le a.homes b.homes) p in
-    let down = split2 (variable_le b a && marks_le b a && content_le b.content a.content) (homes_le b.homes a.homes) q in
-    let ups = split3 (variable_le a b) (marks_le a b) (content_le a.content b.content) up.0 in
-    let downs = split3 (variable_le b a) (marks_le b a) (content_le b.content a.content) down.0 in
+    let up = split2 (variable_leq a b && marks_leq a b && content_leq a.content b.content) (homes_leq a.homes b.homes) p in
+    let down = split2 (variable_leq b a && marks_leq b a && content_leq b.content a.content) (homes_leq b.homes a.homes) q in
+    let ups = split3 (variable_leq a b) (marks_leq a b) (content_leq a.content b.content) up.0 in
+    let downs = split3 (variable_leq b a) (marks_leq b a) (content_leq b.content a.content) down.0 in
     let mark_up = split2 (implies a.usable b.usable) (implies a.passed b.passed) ups.1 in
     let mark_down = split2 (implies b.usable a.usable) (implies b.passed a.passed) downs.1 in
     let may_be = three_same a.null a.gone a.live b.null b.gone b.live ups.0 downs.0 in
@@ -87,13 +87,13 @@ brigades_same a b p q =
     omega (arith, may_be, usable, passed, content, homes)
 
 -- at one brigade, of the same classes
-both_here : (b c : ℕ) (t u : Classes) → (b == c && classes_le t u) ≡ true → (c == b && classes_le u t) ≡ true → (b ≡ c) × (classes_number t ≡ classes_number u)
+both_here : (b c : ℕ) (t u : Classes) → (b == c && classes_leq t u) ≡ true → (c == b && classes_leq u t) ≡ true → (b ≡ c) × (classes_number t ≡ classes_number u)
 both_here b c t u p q =
-    let up = split2 (b == c) (classes_le t u) p in
-    let down = split2 (c == b) (classes_le u t) q in
+    let up = split2 (b == c) (classes_leq t u) p in
+    let down = split2 (c == b) (classes_leq u t) q in
     (eqb-true b c up.0, classes_same t u up.1 down.1)
 
-cursors_same : (a b : CursorKnown) → cursor_le a b ≡ true → cursor_le b a ≡ true → cursor_number a ≡ cursor_number b
+cursors_same : (a b : CursorKnown) → cursor_leq a b ≡ true → cursor_leq b a ≡ true → cursor_number a ≡ cursor_number b
 unfolding cursor_number
 cursors_same Unset Unset p q = refl
 cursors_same Unset (Loose t h) p q = cc p
@@ -102,8 +102,8 @@ cursors_same Unset (End b) p q = cc p
 cursors_same Unset (InOrEnd b t) p q = cc p
 cursors_same (Loose t h) Unset p q = cc q
 cursors_same (Loose t h) (Loose u k) p q =
-    let up = split2 (classes_le t u) (homes_le h k) p in
-    let down = split2 (classes_le u t) (homes_le k h) q in
+    let up = split2 (classes_leq t u) (homes_leq h k) p in
+    let down = split2 (classes_leq u t) (homes_leq k h) q in
     let classes = classes_same t u up.0 down.0 in
     let homes = homes_same h k up.1 down.1 in
     omega (arith, classes, homes)

@@ -8,7 +8,7 @@ use Rattle.life_state.specs.declared.parts.Classes.{Classes}
 use Rattle.life_state.specs.declared.parts.PoolState.{PoolState}
 use Rattle.life_state.specs.States.{Homes, BrigadeKnown, CursorKnown, Unset, Loose, In, End, InOrEnd, State}
 use Rattle.life_state.specs.Facts.{is_apart, known}
-use Rattle.life_state.specs.Order.{implies, all_below, rank, content_le, classes_le, pool_le, homes_le, variable_le, marks_le, brigade_le, cursor_le, same_variables, leq, join}
+use Rattle.life_state.specs.Order.{implies, all_below, rank, content_leq, classes_leq, pool_leq, homes_leq, variable_leq, marks_leq, brigade_leq, cursor_leq, same_variables, leq, join}
 use Rattle.life_state.specs.Laws.{Below}
 use Rattle.life_state.proofs.Below.{all_below_holds}
 use Rattle.life_state.proofs.Tests.{split2, and2, split3, and3, or_left, implies_by, all_at}
@@ -43,19 +43,19 @@ bits_rise a b c x y z h =
     map_back (λ r. and3 (implies x a) (implies y b) (implies z c) r.0.0 r.0.1 r.1)
     (both (both (bit_rises a x (h3.0)) (bit_rises b y (h3.1))) (bit_rises c z (h3.2)))
 
-classes_rise : (a b : Classes) → classes_le a b ≡ true → Climbs (class_weight a) (class_weight b) (classes_le b a ≡ true)
+classes_rise : (a b : Classes) → classes_leq a b ≡ true → Climbs (class_weight a) (class_weight b) (classes_leq b a ≡ true)
 classes_rise a b = bits_rise a.bytes a.flush a.eos b.bytes b.flush b.eos
 
 classes_small : (t : Classes) → class_weight t ≤ 3
 classes_small t = let a = bit_small t.bytes in let b = bit_small t.flush in let c = bit_small t.eos in omega arith
 
-pool_rises : (a b : PoolState) → pool_le a b ≡ true → Climbs (pool_weight a) (pool_weight b) (pool_le b a ≡ true)
+pool_rises : (a b : PoolState) → pool_leq a b ≡ true → Climbs (pool_weight a) (pool_weight b) (pool_leq b a ≡ true)
 pool_rises a b = bits_rise a.null a.gone a.live b.null b.gone b.live
 
 pool_small : (v : PoolState) → pool_weight v ≤ 3
 pool_small v = let a = bit_small v.null in let b = bit_small v.gone in let c = bit_small v.live in omega arith
 
-homes_rise : (a b : Homes) → homes_le a b ≡ true → Climbs (home_weight a) (home_weight b) (homes_le b a ≡ true)
+homes_rise : (a b : Homes) → homes_leq a b ≡ true → Climbs (home_weight a) (home_weight b) (homes_leq b a ≡ true)
 homes_rise a b h =
     let own : ℕ → Bool = λ i. implies (a.at (pool.Own i)) (b.at (pool.Own i)) in
     let back : ℕ → Bool = λ i. implies (b.at (pool.Own i)) (a.at (pool.Own i)) in
@@ -75,7 +75,7 @@ homes_small h =
     let own = sum_small 8 1 (λ i. bit (h.at (pool.Own i))) (λ i below. bit_small (h.at (pool.Own i))) in
     omega arith
 
-content_rises : (a b : Contents) → content_le a b ≡ true → Climbs (rank a) (rank b) (content_le b a ≡ true)
+content_rises : (a b : Contents) → content_leq a b ≡ true → Climbs (rank a) (rank b) (content_leq b a ≡ true)
 content_rises a b h = by_order (rank a) (rank b) (leb-true (rank a) (rank b) h)
   where
     by_order : (m n : ℕ) → m ≤ n → Climbs m n (nat_le n m ≡ true)
@@ -88,16 +88,16 @@ content_small NoEos = omega arith
 content_small NoLateData = omega arith
 content_small Any = omega arith
 
-brigade_rises : (a b : BrigadeKnown) → brigade_le a b ≡ true → Climbs (brigade_weight a) (brigade_weight b) (brigade_le b a ≡ true)
-unfolding brigade_le
+brigade_rises : (a b : BrigadeKnown) → brigade_leq a b ≡ true → Climbs (brigade_weight a) (brigade_weight b) (brigade_leq b a ≡ true)
+unfolding brigade_leq
 brigade_rises a b h =
-    let outer = split2 (variable_le a b && marks_le a b && content_le a.content b.content) (homes_le a.homes b.homes) h in
-    let inner = split3 (variable_le a b) (marks_le a b) (content_le a.content b.content) (outer.0) in
+    let outer = split2 (variable_leq a b && marks_leq a b && content_leq a.content b.content) (homes_leq a.homes b.homes) h in
+    let inner = split3 (variable_leq a b) (marks_leq a b) (content_leq a.content b.content) (outer.0) in
     let v = split3 (implies a.null b.null) (implies a.gone b.gone) (implies a.live b.live) (inner.0) in
     let m = split2 (implies a.usable b.usable) (implies a.passed b.passed) (inner.1) in
     map_back
-    (λ c. and2 (variable_le b a && marks_le b a && content_le b.content a.content) (homes_le b.homes a.homes)
-    (and3 (variable_le b a) (marks_le b a) (content_le b.content a.content)
+    (λ c. and2 (variable_leq b a && marks_leq b a && content_leq b.content a.content) (homes_leq b.homes a.homes)
+    (and3 (variable_leq b a) (marks_leq b a) (content_leq b.content a.content)
     (and3 (implies b.null a.null) (implies b.gone a.gone) (implies b.live a.live) (c.0.0.0.0.0) (c.0.0.0.0.1) (c.0.0.0.1))
     (and2 (implies b.usable a.usable) (implies b.passed a.passed) (c.0.0.1.0) (c.0.0.1.1))
     (c.0.1))
@@ -131,20 +131,20 @@ turned : (b c : ℕ) → (b == c) ≡ true → (c == b) ≡ true
 turned b c h = eq-eqb c b (sym (eqb-true b c h))
 
 -- at one brigade
-here_rises : (b c : ℕ) (s t : Classes) → (b == c && classes_le s t) ≡ true → Climbs (class_weight s) (class_weight t) ((c == b && classes_le t s) ≡ true)
+here_rises : (b c : ℕ) (s t : Classes) → (b == c && classes_leq s t) ≡ true → Climbs (class_weight s) (class_weight t) ((c == b && classes_leq t s) ≡ true)
 here_rises b c s t h =
-    let h2 = split2 (b == c) (classes_le s t) h in
-    map_back (λ back. and2 (c == b) (classes_le t s) (turned b c (h2.0)) back) (classes_rise s t (h2.1))
+    let h2 = split2 (b == c) (classes_leq s t) h in
+    map_back (λ back. and2 (c == b) (classes_leq t s) (turned b c (h2.0)) back) (classes_rise s t (h2.1))
 
-cursor_rises : (x y : CursorKnown) → cursor_le x y ≡ true → Climbs (cursor_weight x) (cursor_weight y) (cursor_le y x ≡ true)
+cursor_rises : (x y : CursorKnown) → cursor_leq x y ≡ true → Climbs (cursor_weight x) (cursor_weight y) (cursor_leq y x ≡ true)
 cursor_rises Unset Unset h = Stays refl refl
 cursor_rises (Loose s k) Unset h = let a = classes_small s in let b = homes_small k in Grows (omega arith)
 cursor_rises (In b s) Unset h = let a = classes_small s in Grows (omega arith)
 cursor_rises (End b) Unset h = Grows (omega arith)
 cursor_rises (InOrEnd b s) Unset h = let a = classes_small s in Grows (omega arith)
 cursor_rises (Loose s k) (Loose t l) h =
-    let h2 = split2 (classes_le s t) (homes_le k l) h in
-    map_back (λ c. and2 (classes_le t s) (homes_le l k) (c.0) (c.1)) (both (classes_rise s t (h2.0)) (homes_rise k l (h2.1)))
+    let h2 = split2 (classes_leq s t) (homes_leq k l) h in
+    map_back (λ c. and2 (classes_leq t s) (homes_leq l k) (c.0) (c.1)) (both (classes_rise s t (h2.0)) (homes_rise k l (h2.1)))
 cursor_rises (In b s) (In c t) h = here_rises b c s t h
 cursor_rises (In b s) (InOrEnd c t) h = let a = classes_small s in Grows (omega arith)
 cursor_rises (End b) (End c) h = Stays refl (turned b c h)
@@ -234,10 +234,10 @@ weight_rises a b h =
     })
     (both
     (both (both (both (bit_rises a.sent b.sent (implies_by a.sent b.sent h.sent))
-    (sum_rises 8 (λ q. pool_weight (a.pools q)) (λ q. pool_weight (b.pools q)) (λ q. pool_le (b.pools q) (a.pools q) ≡ true) (λ q below. pool_rises (a.pools q) (b.pools q) (h.pools q below))))
-    (sum_rises 9 (λ v. brigade_weight (a.brigades v)) (λ v. brigade_weight (b.brigades v)) (λ v. brigade_le (b.brigades v) (a.brigades v) ≡ true)
+    (sum_rises 8 (λ q. pool_weight (a.pools q)) (λ q. pool_weight (b.pools q)) (λ q. pool_leq (b.pools q) (a.pools q) ≡ true) (λ q below. pool_rises (a.pools q) (b.pools q) (h.pools q below))))
+    (sum_rises 9 (λ v. brigade_weight (a.brigades v)) (λ v. brigade_weight (b.brigades v)) (λ v. brigade_leq (b.brigades v) (a.brigades v) ≡ true)
     (λ v below. brigade_rises (a.brigades v) (b.brigades v) (h.brigades v below))))
-    (sum_rises 9 (λ c. cursor_weight (a.cursors c)) (λ c. cursor_weight (b.cursors c)) (λ c. cursor_le (b.cursors c) (a.cursors c) ≡ true)
+    (sum_rises 9 (λ c. cursor_weight (a.cursors c)) (λ c. cursor_weight (b.cursors c)) (λ c. cursor_leq (b.cursors c) (a.cursors c) ≡ true)
     (λ c below. cursor_rises (a.cursors c) (b.cursors c) (h.cursors c below))))
     (both (unknown_rises a b h) (self_rises a b h)))
   where

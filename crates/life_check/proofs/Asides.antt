@@ -40,7 +40,7 @@ use Rattle.life_state.specs.Facts.{move_bucket}
 use Rattle.life_state.specs.Rules.{cursor_need, pool_need, homes_need, homes_at, after_aside}
 use Rattle.life_check.proofs.Wants.{unless_some}
 use Rattle.life_state.specs.PoolOrder.{is_clearable, under_within, is_under as is_declared_under}
-use Rattle.life_state.specs.States.{Homes, home_in, both_homes, with_homes, is_home, BrigadeKnown, CursorKnown, Unset, Loose, In, End, InOrEnd, State, set_brigade as set_brigade_known}
+use Rattle.life_state.specs.States.{Homes, home_in, homes_join, with_homes, is_home, BrigadeKnown, CursorKnown, Unset, Loose, In, End, InOrEnd, State, set_brigade as set_brigade_known}
 use Rattle.life_check.specs.Meaning.{class_has, IsAtBucketOf, IsAtLoose, FitsCursor, CoversPool, ByConnection, ByMember, ByDead, ByCall, Covers, Fits}
 use Rattle.life_check.specs.Soundness.{LivesOutside, LawOf}
 use Rattle.run_model.proofs.RunOrderLaws.{under_itself}
@@ -219,7 +219,7 @@ module _ {lives : Home → Type 0} (p : Program) (r : Configuration) (s : State)
     was_full = full_of (Covers p (pool_view r) lives) (s.brigades b) (r.instance.brigades b) usable (fits.brigades b)
 
     abbrev known_now : BrigadeKnown
-    known_now = with_homes (both_homes (home_in q)) (s.brigades b)
+    known_now = with_homes (homes_join (home_in q)) (s.brigades b)
 
     kept : (y : NamedBucket) → Covers p (pool_view r) lives (s.brigades b).homes y.bucket.home → D known_now.homes y.bucket.home
     kept y e = covers_second p (pool_view left) lives (home_in q) (s.brigades b).homes y.bucket.home (paths_more p lives _ r path (s.brigades b).homes y.bucket.home e)
@@ -342,7 +342,7 @@ law_aside {lives} c q p choice r s ready = by_pool (pool_named r q) refl where
       let i : IsAtBucketOf r (r.call.cursors c) b t = subst (λ (k : CursorKnown). FitsCursor C r k (r.call.cursors c)) is (ready.fits.cursors c) in
       subst (λ (at : CursorPlace). Fits (Covers p (pool_view (do_aside at (Some target) r)) lives) (after_aside c q (In b t) s) (do_aside at (Some target) r))
       (sym (cursor_in r (r.call.cursors c) b t ready.sound.names i))
-      (subst (λ (few : Bool). Fits (Covers p (pool_view (aside_into (Within b i.bucket) target r)) lives) (cond few (set_brigade_known b (with_homes (both_homes (home_in q)) (s.brigades b)) s) s)
+      (subst (λ (few : Bool). Fits (Covers p (pool_view (aside_into (Within b i.bucket) target r)) lives) (cond few (set_brigade_known b (with_homes (homes_join (home_in q)) (s.brigades b)) s) s)
       (aside_into (Within b i.bucket) target r))
       (sym (let lt : b < 9 = usable_below r b ready.sound.names i.usable in is_below b 9 lt))
       (within_fits p r s c q target i.bucket ready.may.proper ready.sound ready.declared ready.outside named (named_lives r q target there named)

@@ -24,12 +24,12 @@ use Rattle.run_model.proofs.Updates.{upd_at, upd_off, upd_either, upd_swap}
 use Rattle.life_state.specs.declared.parts.Classes.{Classes}
 use Rattle.life_state.specs.declared.parts.Contents.TheVariants.{Empty}
 use Rattle.life_state.specs.Facts.{known, moved}
-use Rattle.life_state.specs.States.{Homes, no_homes, both_homes, holds, BrigadeKnown, CursorKnown, Unset, Loose, In, End, InOrEnd, State}
-use Rattle.life_state.specs.Rules.{joined_content, emptied, carried, after_join}
+use Rattle.life_state.specs.States.{Homes, no_homes, homes_join, holds, BrigadeKnown, CursorKnown, Unset, Loose, In, End, InOrEnd, State}
+use Rattle.life_state.specs.Rules.{concat_content, emptied, carried, after_concat}
 use Rattle.life_check.specs.Meaning.{Covers, HoldsOfEach, FitsPool, FitsBrigade, Differ, IsAtBucketOf, IsEndOf, FitsCursor, Fits}
 use Rattle.life_check.specs.Soundness.{LawOf}
 use Rattle.life_check.proofs.Filled.{covers_first, covers_second, IsFull, full_of, full_fits, filled_items, filled_name, filled_usable}
-use Rattle.life_check.proofs.Lists.{each_append, each_more, each_none, holds_joined, named_front, named_behind}
+use Rattle.life_check.proofs.Lists.{each_append, each_more, each_none, holds_concat, named_front, named_behind}
 use Rattle.life_check.proofs.Pools.{covers_moves, same_names, pool_kept, brigade_more, fits_beside}
 use Rattle.life_check.proofs.Standing.{upd_both, within_at, moved_facts, Finds, finds_same, in_stays, end_stays, loose_stays}
 
@@ -225,7 +225,7 @@ module _ (C D : Homes → Home → Type 0) (r new : Configuration) (a b : ℕ) (
 
   -- what is known then
   pub joined_fits : (s : State) (homes : Homes) → SoundNames r → ((q : ℕ) → FitsPool new.shared.pools (s.pools q) (new.instance.pools q))
-      → IsFull D (holds (joined_content (s.brigades a).content (s.brigades b).content) homes) (items_at r a ++ behind) → Fits C s r → Fits D (after_join a b homes s) new
+      → IsFull D (holds (concat_content (s.brigades a).content (s.brigades b).content) homes) (items_at r a ++ behind) → Fits C s r → Fits D (after_concat a b homes s) new
   unfolding moved known
   joined_fits s homes names pool_fits full f = record {
     sent = λ h. f.sent (sym j.sent ∙ h);
@@ -235,7 +235,7 @@ module _ (C D : Homes → Home → Type 0) (r new : Configuration) (a b : ℕ) (
     facts = λ c d h. subst (λ (x : Call). Differ (x.cursors c) (x.cursors d)) (sym j.call) (moved_facts C r s names f (λ k. carried a b (s.cursors k)) c d h);
   } where
     known_a : BrigadeKnown
-    known_a = holds (joined_content (s.brigades a).content (s.brigades b).content) homes
+    known_a = holds (concat_content (s.brigades a).content (s.brigades b).content) homes
 
     swapped : upd (upd r.instance.brigades b (with_items [] (r.instance.brigades b))) a (with_items (items_at r a ++ behind) (r.instance.brigades a))
         ≡ upd (upd r.instance.brigades a (with_items (items_at r a ++ behind) (r.instance.brigades a))) b (with_items [] (r.instance.brigades b))
@@ -255,7 +255,7 @@ module _ (C D : Homes → Home → Type 0) (r new : Configuration) (a b : ℕ) (
 pub law_bconcat : {lives : Home → Type 0} (a b : ℕ) → LawOf lives (instr.BConcat a b)
 unfolding set_variable
 law_bconcat {lives} a b p choice r s ready =
-    joined_fits C C r (do_concat a b r) a b (items_at r b) joins s (both_homes (s.brigades a).homes (s.brigades b).homes) ready.sound.names ready.fits.pools full ready.fits where
+    joined_fits C C r (do_concat a b r) a b (items_at r b) joins s (homes_join (s.brigades a).homes (s.brigades b).homes) ready.sound.names ready.fits.pools full ready.fits where
       C : Homes → Home → Type 0
       C = Covers p (pool_view r) lives
 
@@ -283,14 +283,14 @@ law_bconcat {lives} a b p choice r s ready =
       was_b : IsFull C (s.brigades b) (items_at r b)
       was_b = full_of C (s.brigades b) (r.instance.brigades b) second (ready.fits.brigades b)
 
-      full : IsFull C (holds (joined_content (s.brigades a).content (s.brigades b).content) (both_homes (s.brigades a).homes (s.brigades b).homes)) (items_at r a ++ items_at r b)
+      full : IsFull C (holds (concat_content (s.brigades a).content (s.brigades b).content) (homes_join (s.brigades a).homes (s.brigades b).homes)) (items_at r a ++ items_at r b)
       full = record {
         live = refl;
         usable = refl;
-        holds = holds_joined (s.brigades a).content (s.brigades b).content (items_at r a) (items_at r b) was_a.holds was_b.holds;
-        homes = each_append (λ x. C (both_homes (s.brigades a).homes (s.brigades b).homes) x.bucket.home) (items_at r a) (items_at r b)
-            (each_more (λ x. C (s.brigades a).homes x.bucket.home) (λ x. C (both_homes (s.brigades a).homes (s.brigades b).homes) x.bucket.home)
+        holds = holds_concat (s.brigades a).content (s.brigades b).content (items_at r a) (items_at r b) was_a.holds was_b.holds;
+        homes = each_append (λ x. C (homes_join (s.brigades a).homes (s.brigades b).homes) x.bucket.home) (items_at r a) (items_at r b)
+            (each_more (λ x. C (s.brigades a).homes x.bucket.home) (λ x. C (homes_join (s.brigades a).homes (s.brigades b).homes) x.bucket.home)
             (λ x c. covers_first p (pool_view r) lives (s.brigades a).homes (s.brigades b).homes x.bucket.home c) (items_at r a) was_a.homes)
-            (each_more (λ x. C (s.brigades b).homes x.bucket.home) (λ x. C (both_homes (s.brigades a).homes (s.brigades b).homes) x.bucket.home)
+            (each_more (λ x. C (s.brigades b).homes x.bucket.home) (λ x. C (homes_join (s.brigades a).homes (s.brigades b).homes) x.bucket.home)
             (λ x c. covers_second p (pool_view r) lives (s.brigades a).homes (s.brigades b).homes x.bucket.home c) (items_at r b) was_b.homes);
       }

@@ -17,7 +17,7 @@ use Rattle.run_model.specs.EffectOf.{effect_of, branch_of}
 use Rattle.run_model.specs.declared.fault.FaultKind.{FaultKind}
 use Rattle.run_model.specs.Faults.{wants}
 use Rattle.life_state.specs.declared.parts.Classes.{Classes}
-use Rattle.life_state.specs.States.{State, CursorKnown, Loose, In, End, InOrEnd, home_in, both_homes, with_homes, only_null, never_made, set_pool, set_brigade}
+use Rattle.life_state.specs.States.{State, CursorKnown, Loose, In, End, InOrEnd, home_in, homes_join, with_homes, only_null, never_made, set_pool, set_brigade}
 use Rattle.life_state.specs.Facts.{moved, set_cursor}
 use Rattle.life_state.specs.Rules.{Edges, some_if, cleared_under, after_next, if_brigade, put_in, before_content, after_before, after_aside, is_empty, edges_jend, of_kind, not_of_kind, some_class}
 use Rattle.life_state.specs.Rules.{with_classes, classes_of, told, told_classes, pool_not_null, brigade_not_null, edges_jnull, after, on_condition, led, edges, first_need, need_or, rule}
@@ -55,7 +55,7 @@ before_alike c _ s = record { pools = refl; brigades = refl }
 aside_alike : (c : ℕ) (q : PoolRef) (v : CursorKnown) (s : State) → OfSameVariables s (after_aside c q v s)
 unfolding moved
 aside_alike c q (Loose t h) s = record { pools = refl; brigades = refl }
-aside_alike c q (In b t) s = if_alike b 9 (set_brigade b (with_homes (both_homes (home_in q)) (s.brigades b)) s) s (record { pools = refl; brigades = refl })
+aside_alike c q (In b t) s = if_alike b 9 (set_brigade b (with_homes (homes_join (home_in q)) (s.brigades b)) s) s (record { pools = refl; brigades = refl })
 aside_alike c q _ s = record { pools = refl; brigades = refl }
 
 jend_alike : (c : ℕ) (v : CursorKnown) (s : State) → EdgesAlike s (edges_jend c v s)

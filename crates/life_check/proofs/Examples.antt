@@ -13,7 +13,7 @@ use Rattle.life_state.specs.declared.parts.Contents.TheVariants.{Empty}
 use Rattle.life_state.specs.Examples.{identity, resting, serving, brought}
 use Rattle.life_state.specs.Facts.{known, facts_of, moved}
 use Rattle.life_state.specs.InForm.{is_formed}
-use Rattle.life_state.specs.Order.{all_below, brigade_le, leq}
+use Rattle.life_state.specs.Order.{all_below, brigade_leq, leq}
 use Rattle.life_state.specs.PoolOrder.{under_within}
 use Rattle.life_state.specs.Rules.{cleared_under, at_end_of_request}
 use Rattle.life_state.specs.States.{no_homes, BrigadeKnown, holds, passed_on, State}
@@ -30,7 +30,7 @@ use Rattle.life_check.specs.ChainTheorem.{NoFaults, ChainNeverFaults}
 use Rattle.life_check.proofs.SafeChains.{typed_alone_never_faults}
 
 pub identity_answers : IdentityAnswers
-unfolding pool_of_brigade pool_of_pool upd any_below known facts_of moved all_below brigade_le leq under_within cleared_under at_end_of_request is_formed first_below first_refusal
+unfolding pool_of_brigade pool_of_pool upd any_below known facts_of moved all_below brigade_leq leq under_within cleared_under at_end_of_request is_formed first_below first_refusal
 identity_answers = record { accepted = refl; unreached = refl; out_of_form = refl; no_eos = refl; empty = refl; nowhere = refl }
 
 -- Its states have no more variables than there are.

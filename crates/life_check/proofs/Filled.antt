@@ -19,7 +19,7 @@ use Rattle.run_model.specs.Faults.{usable_fault}
 use Rattle.run_model.specs.Sound.{SoundNames, brigade_name}
 use Rattle.run_model.specs.State.{Configuration, PoolView, items_of, is_passed, set_brigade, set_loose}
 use Rattle.run_model.proofs.Updates.{upd_at}
-use Rattle.life_state.specs.States.{Homes, both_homes, BrigadeKnown, CursorKnown, State}
+use Rattle.life_state.specs.States.{Homes, homes_join, BrigadeKnown, CursorKnown, State}
 use Rattle.life_state.specs.Facts.{known, moved, forgotten, move_bucket}
 use Rattle.life_state.proofs.Tests.{or_left, or_right}
 use Rattle.life_check.specs.Meaning.{CoversPool, ByConnection, ByMember, ByDead, ByCall, Covers, HoldsOfEach, HoldsContents, FitsMark, FitsBrigade, FitsCursor, Differ, Fits}
@@ -28,25 +28,25 @@ use Rattle.life_check.proofs.Standing.{upd_both, upd_first, upd_second, moved_fa
 -- Homes of which there are more.
 
 module _ (p : Program) (v : PoolView) (lives : Home → Type 0) (h g : Homes) where
-  first_pool : (n : ℕ) → CoversPool p v lives h n → CoversPool p v lives (both_homes h g) n
+  first_pool : (n : ℕ) → CoversPool p v lives h n → CoversPool p v lives (homes_join h g) n
   first_pool n (ByConnection e) = ByConnection e
   first_pool n (ByMember k d clear_k clear_d named at under) = ByMember k d clear_k clear_d named (or_left (h.at d) (g.at d) at) under
   first_pool n (ByDead k clear named dead) = ByDead k clear named (or_left h.dead g.dead dead)
   first_pool n (ByCall call there) = ByCall (or_left h.call g.call call) there
 
-  second_pool : (n : ℕ) → CoversPool p v lives g n → CoversPool p v lives (both_homes h g) n
+  second_pool : (n : ℕ) → CoversPool p v lives g n → CoversPool p v lives (homes_join h g) n
   second_pool n (ByConnection e) = ByConnection e
   second_pool n (ByMember k d clear_k clear_d named at under) = ByMember k d clear_k clear_d named (or_right (h.at d) (g.at d) at) under
   second_pool n (ByDead k clear named dead) = ByDead k clear named (or_right h.dead g.dead dead)
   second_pool n (ByCall call there) = ByCall (or_right h.call g.call call) there
 
-  pub covers_first : (x : Home) → Covers p v lives h x → Covers p v lives (both_homes h g) x
+  pub covers_first : (x : Home) → Covers p v lives h x → Covers p v lives (homes_join h g) x
   covers_first home.Free c = tt
   covers_first (home.Call n) c = (or_left h.call g.call (c.0), c.1)
   covers_first (home.Pool n) c = (c.0, first_pool n (c.1))
   covers_first home.Ended c = or_left h.dead g.dead c
 
-  pub covers_second : (x : Home) → Covers p v lives g x → Covers p v lives (both_homes h g) x
+  pub covers_second : (x : Home) → Covers p v lives g x → Covers p v lives (homes_join h g) x
   covers_second home.Free c = tt
   covers_second (home.Call n) c = (or_right h.call g.call (c.0), c.1)
   covers_second (home.Pool n) c = (c.0, second_pool n (c.1))

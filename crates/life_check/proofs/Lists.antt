@@ -19,8 +19,8 @@ use Rattle.model_laws.proofs.CursorNames.{found_there}
 use Rattle.life_state.specs.declared.parts.Contents.{Contents}
 use Rattle.life_state.specs.declared.parts.Contents.TheVariants.{Empty, Flushes, NoEos, NoLateData, Any}
 use Rattle.life_state.specs.declared.parts.Classes.{Classes}
-use Rattle.life_state.specs.Order.{content_le, greater}
-use Rattle.life_state.specs.Rules.{joined_content, content_of, tail_content, head_content, before_eos, before_data, before_content}
+use Rattle.life_state.specs.Order.{content_leq, content_join}
+use Rattle.life_state.specs.Rules.{concat_content, content_of, tail_content, head_content, before_eos, before_data, before_content}
 use Rattle.life_check.specs.Meaning.{class_has, HoldsOfEach, HoldsContents}
 
 -- What is true of each bucket.
@@ -225,7 +225,7 @@ no_data_late (x ∷ xs) none =
     or_from (is_eos x && has_data xs) (data_after_eos xs) (both_false (is_eos x) (has_data xs) (parts.1)) (no_data_late xs (parts.1))
 
 -- what holds so much holds more
-pub holds_more : (a b : Contents) (xs : List NamedBucket) → content_le a b ≡ true → HoldsContents a xs → HoldsContents b xs
+pub holds_more : (a b : Contents) (xs : List NamedBucket) → content_leq a b ≡ true → HoldsContents a xs → HoldsContents b xs
 holds_more Empty Empty xs le h = h
 holds_more Empty Flushes xs le h = (ap has_data h, ap has_eos h)
 holds_more Empty NoEos xs le h = ap has_eos h
@@ -354,24 +354,24 @@ joined_ahead (x ∷ xs) ys h none =
     or_from (is_eos x && has_data (xs ++ ys)) (data_after_eos (xs ++ ys)) (and_less (is_eos x) (has_data xs) (has_data (xs ++ ys)) (λ e. joined_data xs ys e none) (parts.0))
     (joined_ahead xs ys (parts.1) none)
 
-pub holds_joined : (a b : Contents) (xs ys : List NamedBucket) → HoldsContents a xs → HoldsContents b ys → HoldsContents (joined_content a b) (xs ++ ys)
-holds_joined Empty b xs ys h k = subst (λ (zs : List NamedBucket). HoldsContents b (zs ++ ys)) (sym h) k
-holds_joined Flushes Empty xs ys h k = (joined_data xs ys (h.0) (ap has_data k), joined_eos xs ys (h.1) (ap has_eos k))
-holds_joined Flushes Flushes xs ys h k = (joined_data xs ys (h.0) (k.0), joined_eos xs ys (h.1) (k.1))
-holds_joined Flushes NoEos xs ys h k = joined_eos xs ys (h.1) k
-holds_joined Flushes NoLateData xs ys h k = joined_behind xs ys (h.1) k
-holds_joined Flushes Any xs ys h k = tt
-holds_joined NoEos Empty xs ys h k = joined_eos xs ys h (ap has_eos k)
-holds_joined NoEos Flushes xs ys h k = joined_eos xs ys h (k.1)
-holds_joined NoEos NoEos xs ys h k = joined_eos xs ys h k
-holds_joined NoEos NoLateData xs ys h k = joined_behind xs ys h k
-holds_joined NoEos Any xs ys h k = tt
-holds_joined NoLateData Empty xs ys h k = joined_ahead xs ys h (ap has_data k)
-holds_joined NoLateData Flushes xs ys h k = joined_ahead xs ys h (k.0)
-holds_joined NoLateData NoEos xs ys h k = tt
-holds_joined NoLateData NoLateData xs ys h k = tt
-holds_joined NoLateData Any xs ys h k = tt
-holds_joined Any b xs ys h k = tt
+pub holds_concat : (a b : Contents) (xs ys : List NamedBucket) → HoldsContents a xs → HoldsContents b ys → HoldsContents (concat_content a b) (xs ++ ys)
+holds_concat Empty b xs ys h k = subst (λ (zs : List NamedBucket). HoldsContents b (zs ++ ys)) (sym h) k
+holds_concat Flushes Empty xs ys h k = (joined_data xs ys (h.0) (ap has_data k), joined_eos xs ys (h.1) (ap has_eos k))
+holds_concat Flushes Flushes xs ys h k = (joined_data xs ys (h.0) (k.0), joined_eos xs ys (h.1) (k.1))
+holds_concat Flushes NoEos xs ys h k = joined_eos xs ys (h.1) k
+holds_concat Flushes NoLateData xs ys h k = joined_behind xs ys (h.1) k
+holds_concat Flushes Any xs ys h k = tt
+holds_concat NoEos Empty xs ys h k = joined_eos xs ys h (ap has_eos k)
+holds_concat NoEos Flushes xs ys h k = joined_eos xs ys h (k.1)
+holds_concat NoEos NoEos xs ys h k = joined_eos xs ys h k
+holds_concat NoEos NoLateData xs ys h k = joined_behind xs ys h k
+holds_concat NoEos Any xs ys h k = tt
+holds_concat NoLateData Empty xs ys h k = joined_ahead xs ys h (ap has_data k)
+holds_concat NoLateData Flushes xs ys h k = joined_ahead xs ys h (k.0)
+holds_concat NoLateData NoEos xs ys h k = tt
+holds_concat NoLateData NoLateData xs ys h k = tt
+holds_concat NoLateData Any xs ys h k = tt
+holds_concat Any b xs ys h k = tt
 
 -- One bucket.
 
@@ -384,14 +384,14 @@ one_holds t x has = by_class t.eos t.bytes refl refl where
   by_class false false e d = (or_from (is_data x) false (no_data t x.bucket.kind has d) refl, or_from (is_eos x) false (no_eos t x.bucket.kind has e) refl)
 
 pub holds_tail : (k : Contents) (t : Classes) (x : NamedBucket) (xs : List NamedBucket) → class_has t x.bucket.kind ≡ true → HoldsContents k xs → HoldsContents (tail_content k t) (put_tail x xs)
-holds_tail Empty t x xs has h = more t.eos t.bytes (holds_joined Empty (content_of t) xs (x ∷ []) h (one_holds t x has)) where
+holds_tail Empty t x xs has h = more t.eos t.bytes (holds_concat Empty (content_of t) xs (x ∷ []) h (one_holds t x has)) where
   more : (eos bytes : Bool) → HoldsContents (cond eos NoLateData (cond bytes NoEos Flushes)) (put_tail x xs)
-      → HoldsContents (greater Empty (cond eos NoLateData (cond bytes NoEos Flushes))) (put_tail x xs)
+      → HoldsContents (content_join Empty (cond eos NoLateData (cond bytes NoEos Flushes))) (put_tail x xs)
   more true bytes h = h
   more false true h = h
   more false false h = h
-holds_tail Flushes t x xs has h = holds_joined Flushes (content_of t) xs (x ∷ []) h (one_holds t x has)
-holds_tail NoEos t x xs has h = holds_joined NoEos (content_of t) xs (x ∷ []) h (one_holds t x has)
+holds_tail Flushes t x xs has h = holds_concat Flushes (content_of t) xs (x ∷ []) h (one_holds t x has)
+holds_tail NoEos t x xs has h = holds_concat NoEos (content_of t) xs (x ∷ []) h (one_holds t x has)
 holds_tail NoLateData t x xs has h = by_class t.bytes refl where
   by_class : (bytes : Bool) → t.bytes ≡ bytes → HoldsContents (cond bytes Any NoLateData) (put_tail x xs)
   by_class true d = tt
@@ -399,10 +399,10 @@ holds_tail NoLateData t x xs has h = by_class t.bytes refl where
 holds_tail Any t x xs has h = tt
 
 -- at the head: as a list of the one before the others
-head_joined : (k : Contents) (t : Classes) → joined_content (content_of t) k ≡ head_content k t
-head_joined k t = by_class k t.eos t.bytes where
+head_concat : (k : Contents) (t : Classes) → concat_content (content_of t) k ≡ head_content k t
+head_concat k t = by_class k t.eos t.bytes where
   by_class : (k : Contents) (eos bytes : Bool)
-      → joined_content (cond eos NoLateData (cond bytes NoEos Flushes)) k ≡ head_content k (record { bytes = bytes; flush = t.flush; eos = eos })
+      → concat_content (cond eos NoLateData (cond bytes NoEos Flushes)) k ≡ head_content k (record { bytes = bytes; flush = t.flush; eos = eos })
   by_class Empty true bytes = refl
   by_class Flushes true bytes = refl
   by_class NoEos true bytes = refl
@@ -420,7 +420,7 @@ head_joined k t = by_class k t.eos t.bytes where
   by_class Any false false = refl
 
 pub holds_head : (k : Contents) (t : Classes) (x : NamedBucket) (xs : List NamedBucket) → class_has t x.bucket.kind ≡ true → HoldsContents k xs → HoldsContents (head_content k t) (put_head x xs)
-holds_head k t x xs has h = subst (λ (c : Contents). HoldsContents c (x ∷ xs)) (head_joined k t) (holds_joined (content_of t) k (x ∷ []) xs (one_holds t x has) h)
+holds_head k t x xs has h = subst (λ (c : Contents). HoldsContents c (x ∷ xs)) (head_concat k t) (holds_concat (content_of t) k (x ∷ []) xs (one_holds t x has) h)
 
 -- Before another bucket.
 
@@ -466,7 +466,7 @@ module _ (at : ℕ) (x : NamedBucket) (xs : List NamedBucket) where
   data_before NoLateData plain h = tt
   data_before Any plain h = tt
 
-  flush_before : (k : Contents) → is_data x ≡ false → is_eos x ≡ false → HoldsContents k xs → HoldsContents (greater k Flushes) (put_before at x xs)
+  flush_before : (k : Contents) → is_data x ≡ false → is_eos x ≡ false → HoldsContents k xs → HoldsContents (content_join k Flushes) (put_before at x xs)
   flush_before Empty none plain h = (put_data none (ap has_data h), put_eos plain (ap has_eos h))
   flush_before Flushes none plain h = (put_data none (h.0), put_eos plain (h.1))
   flush_before NoEos none plain h = put_eos plain h
@@ -475,7 +475,7 @@ module _ (at : ℕ) (x : NamedBucket) (xs : List NamedBucket) where
 
   pub holds_before : (k : Contents) (t : Classes) → class_has t x.bucket.kind ≡ true → HoldsContents k xs → HoldsContents (before_content k t) (put_before at x xs)
   holds_before k t has h = by_class t.eos t.bytes refl refl where
-    by_class : (eos bytes : Bool) → t.eos ≡ eos → t.bytes ≡ bytes → HoldsContents (cond eos (before_eos k) (cond bytes (before_data k) (greater k Flushes))) (put_before at x xs)
+    by_class : (eos bytes : Bool) → t.eos ≡ eos → t.bytes ≡ bytes → HoldsContents (cond eos (before_eos k) (cond bytes (before_data k) (content_join k Flushes))) (put_before at x xs)
     by_class true bytes e d = eos_before k h
     by_class false true e d = data_before k (no_eos t x.bucket.kind has e) h
     by_class false false e d = flush_before k (no_data t x.bucket.kind has d) (no_eos t x.bucket.kind has e) h

@@ -16,7 +16,7 @@ use Rattle.run_model.specs.State.{Configuration, pool_view, set_brigade, set_loo
 use Rattle.model_laws.proofs.Marks.{first_none, second_none}
 use Rattle.life_state.specs.declared.parts.Classes.{Classes}
 use Rattle.life_state.specs.declared.parts.Contents.{Contents}
-use Rattle.life_state.specs.States.{Homes, both_homes, holds, BrigadeKnown, CursorKnown, Loose, In, State, set_brigade as with_brigade}
+use Rattle.life_state.specs.States.{Homes, homes_join, holds, BrigadeKnown, CursorKnown, Loose, In, State, set_brigade as with_brigade}
 use Rattle.life_state.specs.Facts.{move_bucket}
 use Rattle.life_state.specs.Rules.{cursor_need, usable_need, classes_of, homes_at, tail_content, head_content, before_content, put_in, after_before}
 use Rattle.life_check.specs.Meaning.{class_has, Covers, HoldsOfEach, HoldsContents, IsAtBucketOf, IsAtLoose, FitsCursor, Fits}
@@ -61,12 +61,12 @@ before_inserts P at t x xs = record {
 -- put_in where this is known of c
 abbrev put_known : (Contents → Classes → Contents) → ℕ → ℕ → CursorKnown → State → State
 put_known content b c k s =
-    move_bucket c (In b (classes_of k)) (with_brigade b (holds (content (s.brigades b).content (classes_of k)) (both_homes (s.brigades b).homes (homes_at s k))) s)
+    move_bucket c (In b (classes_of k)) (with_brigade b (holds (content (s.brigades b).content (classes_of k)) (homes_join (s.brigades b).homes (homes_at s k))) s)
 
 module _ (p : Program) (lives : Home → Type 0) (r : Configuration) (s : State) (names : SoundNames r) (f : Fits (Covers p (pool_view r) lives) s r) where
   put_fits : (content : Contents → Classes → Contents) (insert : NamedBucket → List NamedBucket → List NamedBucket) (c b : ℕ) (t : Classes) (h : Homes)
       → (i : IsAtLoose (Covers p (pool_view r) lives) r (r.call.cursors c) t h) → usable_fault (r.instance.brigades b) ≡ None
-      → Inserts (λ y. Covers p (pool_view r) lives (both_homes (s.brigades b).homes h) y.bucket.home) content insert t i.bucket (items_at r b)
+      → Inserts (λ y. Covers p (pool_view r) lives (homes_join (s.brigades b).homes h) y.bucket.home) content insert t i.bucket (items_at r b)
       → Fits (Covers p (pool_view r) lives) (put_known content b c (Loose t h) s) (put_into insert b (AtLoose i.bucket) r)
   unfolding set_brigade set_loose
   put_fits content insert c b t h i usable ins =
@@ -75,13 +75,13 @@ module _ (p : Program) (lives : Home → Type 0) (r : Configuration) (s : State)
       let ys : List NamedBucket = insert x (items_at r b) in
       let loose : List NamedBucket = taken_out x.name r.call.loose in
       let had : IsFull C (s.brigades b) (items_at r b) = full_of C (s.brigades b) (r.instance.brigades b) usable (f.brigades b) in
-      let new : BrigadeKnown = holds (content (s.brigades b).content t) (both_homes (s.brigades b).homes h) in
+      let new : BrigadeKnown = holds (content (s.brigades b).content t) (homes_join (s.brigades b).homes h) in
       let full : IsFull C new ys = record {
         live = refl;
         usable = refl;
         holds = ins.holds (s.brigades b).content i.classed had.holds;
         homes = ins.each (covers_second p (pool_view r) lives (s.brigades b).homes h x.bucket.home i.covered)
-            (each_more (λ y. C (s.brigades b).homes y.bucket.home) (λ y. C (both_homes (s.brigades b).homes h) y.bucket.home)
+            (each_more (λ y. C (s.brigades b).homes y.bucket.home) (λ y. C (homes_join (s.brigades b).homes h) y.bucket.home)
             (λ y e. covers_first p (pool_view r) lives (s.brigades b).homes h y.bucket.home e) (items_at r b) had.homes);
       } in
       bucket_moved C r s c x.name (In b t) (upd s.brigades b new) (upd r.instance.brigades b (with_items ys (r.instance.brigades b))) loose names f i.at
@@ -110,7 +110,7 @@ module _ (p : Program) (lives : Home → Type 0) (r : Configuration) (s : State)
       let i : IsAtLoose (Covers p (pool_view r) lives) r (r.call.cursors c) t h = subst (λ (k : CursorKnown). FitsCursor (Covers p (pool_view r) lives) r k (r.call.cursors c)) is (f.cursors c) in
       subst (λ (at : CursorPlace). Fits (Covers p (pool_view (put_into insert b at r)) lives) (put_known content b c (Loose t h) s) (put_into insert b at r))
       (sym (cursor_loose (Covers p (pool_view r) lives) r (r.call.cursors c) t h names i))
-      (put_fits p lives r s names f content insert c b t h i usable (ins (λ y. Covers p (pool_view r) lives (both_homes (s.brigades b).homes h) y.bucket.home) t i.bucket (items_at r b)))
+      (put_fits p lives r s names f content insert c b t h i usable (ins (λ y. Covers p (pool_view r) lives (homes_join (s.brigades b).homes h) y.bucket.home) t i.bucket (items_at r b)))
   end_fits content insert b c usable ins k is met = absurd (cc)
 
   -- before a bucket of the brigade of b
@@ -124,7 +124,7 @@ module _ (p : Program) (lives : Home → Type 0) (r : Configuration) (s : State)
       (subst (λ (at : CursorPlace). Fits (Covers p (pool_view (put_into (put_before j.bucket.name) b at r)) lives) (put_known before_content b c (Loose u h) s)
       (put_into (put_before j.bucket.name) b at r)) (sym (cursor_loose (Covers p (pool_view r) lives) r (r.call.cursors c) u h names i))
       (put_fits p lives r s names f before_content (put_before j.bucket.name) c b u h i j.usable
-      (before_inserts (λ y. Covers p (pool_view r) lives (both_homes (s.brigades b).homes h) y.bucket.home) j.bucket.name u i.bucket (items_at r b))))
+      (before_inserts (λ y. Covers p (pool_view r) lives (homes_join (s.brigades b).homes h) y.bucket.home) j.bucket.name u i.bucket (items_at r b))))
   beside_fits c d b t j k is met = absurd (cc)
 
 pub law_tail : {lives : Home → Type 0} (b c : ℕ) → LawOf lives (instr.Tail b c)

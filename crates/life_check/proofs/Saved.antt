@@ -28,15 +28,15 @@ use Rattle.model_laws.proofs.Operands.{saved_brigades}
 use Rattle.model_laws.proofs.StepPools.{referred_path}
 use Rattle.life_state.specs.declared.parts.Classes.{Classes}
 use Rattle.life_state.specs.PoolOrder.{is_clearable}
-use Rattle.life_state.specs.Rules.{homes_need, usable_need, first_need, joined_content, after_bsave}
-use Rattle.life_state.specs.States.{Homes, both_homes, home_in, holds, State}
+use Rattle.life_state.specs.Rules.{homes_need, usable_need, first_need, concat_content, after_bsave}
+use Rattle.life_state.specs.States.{Homes, homes_join, home_in, holds, State}
 use Rattle.life_state.proofs.Tests.{split3}
 use Rattle.life_check.specs.Meaning.{Covers, class_has, HoldsOfEach, Fits}
 use Rattle.life_check.specs.Soundness.{MeetsNeeds, LawOf}
 use Rattle.life_check.proofs.Asides.{aside_covered}
 use Rattle.life_check.proofs.Brigades.{Joins, joined_fits}
 use Rattle.life_check.proofs.Filled.{covers_first, covers_second, IsFull, full_of}
-use Rattle.life_check.proofs.Lists.{each_of_all, each_append, each_more, each_map, map_found, named_map, IsSorted, holds_map, holds_joined}
+use Rattle.life_check.proofs.Lists.{each_of_all, each_append, each_more, each_map, map_found, named_map, IsSorted, holds_map, holds_concat}
 use Rattle.life_check.proofs.Pools.{covers_moves, same_names, same_live, pool_kept}
 use Rattle.life_check.proofs.Cleared.{own_clearable}
 
@@ -108,7 +108,7 @@ module _ (p : Program) (lives : Home → Type 0) (o b target : ℕ) (r : Configu
   place = pool_of_brigade p o
 
   abbrev homes : Homes
-  homes = both_homes (s.brigades o).homes (home_in (pool_of_brigade p o))
+  homes = homes_join (s.brigades o).homes (home_in (pool_of_brigade p o))
 
   first : usable_fault (r.instance.brigades o) ≡ None
   first = first_none (usable_fault (r.instance.brigades o)) (first_fault r (WUsable b ∷ (WHomes b ∷ []))) ready.may.faultless
@@ -167,11 +167,11 @@ module _ (p : Program) (lives : Home → Type 0) (o b target : ℕ) (r : Configu
       (each_both (λ x. FitsKind x.bucket) (λ x. C (s.brigades b).homes x.bucket.home) items (each_of_all (λ x. FitsKind x.bucket) items (ready.sound.buckets.brigades b)) was_b.homes)
 
   saved_full : pool_named r place ≡ Some target → is_live r.shared.pools target ≡ true
-      → IsFull D (holds (joined_content (s.brigades o).content (s.brigades b).content) homes) (items_at r o ++ map aside items)
+      → IsFull D (holds (concat_content (s.brigades o).content (s.brigades b).content) homes) (items_at r o ++ map aside items)
   saved_full is live = record {
     live = refl;
     usable = refl;
-    holds = holds_joined (s.brigades o).content (s.brigades b).content (items_at r o) (map aside items) was_o.holds
+    holds = holds_concat (s.brigades o).content (s.brigades b).content (items_at r o) (map aside items) was_o.holds
         (holds_map (s.brigades b).content aside (aside_sorted r.shared.pools target) items was_b.holds);
     homes = each_append (λ x. D homes x.bucket.home) (items_at r o) (map aside items)
         (each_more (λ x. C (s.brigades o).homes x.bucket.home) (λ x. D homes x.bucket.home)

@@ -11,7 +11,7 @@ use Rattle.life_state.specs.Order.{leq}
 use Rattle.life_state.specs.Rules.{Edges, rule, at_open, at_return}
 use Rattle.life_state.specs.Form.{IsFormed}
 use Rattle.life_state.specs.FormLaws.{IsFormedIn}
-use Rattle.life_state.specs.Monotone.{edge_le, LeadsBelow}
+use Rattle.life_state.specs.Monotone.{edge_leq, LeadsBelow}
 use Rattle.life_state.proofs.Below.{all_below_holds}
 use Rattle.life_state.proofs.Tests.{split2, split3, and2, and3}
 use Rattle.life_state.proofs.WithinRules.{rules_are_monotone, entries_are_monotone}
@@ -21,7 +21,7 @@ use Rattle.life_check.specs.Typed.{is_below, flows, main_from, fits_between, fit
 use Rattle.life_check.proofs.Completed.{below_itself, below_trans, head_full, next_full, head_kept, only_formed, each_fits, full_formed, completion_shaped}
 use Rattle.life_check.proofs.Targets.{target_head, first_head, head_at_init, head_at_main}
 
-edge_flows : (o q t : Option State) → edge_le o q ≡ true → flows q t ≡ true → flows o t ≡ true
+edge_flows : (o q t : Option State) → edge_leq o q ≡ true → flows q t ≡ true → flows o t ≡ true
 edge_flows None q t le h = refl
 edge_flows (Some a) None t le h = cc
 edge_flows (Some a) (Some b) t le h = below_trans a b t le h

@@ -38,7 +38,7 @@ use Rattle.life_state.specs.declared.parts.Contents.{Contents}
 use Rattle.life_state.specs.declared.parts.Contents.TheVariants.{Flushes, NoLateData}
 use Rattle.life_state.specs.declared.parts.PoolState.{PoolState}
 use Rattle.life_state.specs.Facts.{is_set}
-use Rattle.life_state.specs.Order.{content_le}
+use Rattle.life_state.specs.Order.{content_leq}
 use Rattle.life_state.specs.PoolOrder.{is_clearable}
 use Rattle.life_state.specs.Rules.{cursor_need, pool_need, brigade_need, usable_need, homes_need, homes_at, send_limit, keeps_call, need, first_need}
 use Rattle.life_state.specs.States.{Homes, is_live_alone, BrigadeKnown, is_live_brigade, is_usable_alone, CursorKnown, Unset, Loose, In, End, InOrEnd, State}
@@ -174,17 +174,17 @@ across_alive C h (suc n) (x ∷ xs) ended live e = by_length (nat_le (length_of 
 
 -- What is sent on.
 
-sent_met : (a : Contents) (xs : List NamedBucket) (s : Bool) → content_le a (send_limit s) ≡ true → HoldsContents a xs → (data_after_eos xs || (s && has_data xs)) ≡ false
+sent_met : (a : Contents) (xs : List NamedBucket) (s : Bool) → content_leq a (send_limit s) ≡ true → HoldsContents a xs → (data_after_eos xs || (s && has_data xs)) ≡ false
 sent_met a xs true h e =
     let few = holds_more a Flushes xs h e in
     ap (λ b. b || has_data xs) (no_late_data xs (few.1)) ∙ few.0
 sent_met a xs false h e = ap (λ b. b || false) (holds_more a NoLateData xs h e)
 
 -- an EOS was passed only where the state tells so
-pub send_met : (v : BrigadeKnown) (xs : List NamedBucket) (known sent : Bool) → (sent ≡ true → known ≡ true) → content_le v.content (send_limit known) ≡ true → HoldsContents v.content xs
+pub send_met : (v : BrigadeKnown) (xs : List NamedBucket) (known sent : Bool) → (sent ≡ true → known ≡ true) → content_leq v.content (send_limit known) ≡ true → HoldsContents v.content xs
     → send_fault sent xs ≡ None
 send_met v xs known true told h e =
-    ap (λ b. cond b (Some F8) None) (sent_met v.content xs true (ap (λ b. content_le v.content (send_limit b)) (sym (told refl)) ∙ h) e)
+    ap (λ b. cond b (Some F8) None) (sent_met v.content xs true (ap (λ b. content_leq v.content (send_limit b)) (sym (told refl)) ∙ h) e)
 send_met v xs true false told h e = ap (λ b. cond b (Some F8) None) (sent_met v.content xs false (content_trans v.content Flushes NoLateData h refl) e)
 send_met v xs false false told h e = ap (λ b. cond b (Some F8) None) (sent_met v.content xs false h e)
 
@@ -398,7 +398,7 @@ module _ (C : Homes → Home → Type 0) (r : Configuration) (s : State) (ended 
   want_met before (WHomeAcross b x) met led asked h =
       across_alive C (s.brigades b).homes (value_of r x) (items_at r b) ended (unless_some (s.brigades b).homes.dead F5 h) ((items_met b (use_met s b before met led)).1)
   want_met before (WSend b) met led asked h =
-      send_met (s.brigades b) (items_at r b) s.sent r.instance.sent f.sent (only_if (content_le (s.brigades b).content (send_limit s.sent)) F8 h) ((items_met b (use_met s b before met led)).0)
+      send_met (s.brigades b) (items_at r b) s.sent r.instance.sent f.sent (only_if (content_leq (s.brigades b).content (send_limit s.sent)) F8 h) ((items_met b (use_met s b before met led)).0)
   want_met before WReturn met led asked h = return_met C r s tells f h
 
   first_met : (before ws : List Want) → AllMet s before → all_led before ws ≡ true → (wants_request ws ≡ true → is_some r.shared.req ≡ true) → first_need s ws ≡ None → first_fault r ws ≡ None

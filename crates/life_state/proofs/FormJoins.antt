@@ -4,7 +4,7 @@ use Rattle.module_code.specs.Program.{Program}
 use Rattle.life_state.specs.declared.parts.Classes.{Classes}
 use Rattle.life_state.specs.States.{Homes, BrigadeKnown, never_made, is_live_brigade, CursorKnown, Unset, Loose, In, End, InOrEnd, State}
 use Rattle.life_state.specs.Facts.{is_set, is_apart, place_of, known}
-use Rattle.life_state.specs.Order.{both_classes, both_pools, both_brigades, both_here, both_cursors, is_at_hand, if_at_hand, kept_cursor, joined_brigades, joined_cursors, join}
+use Rattle.life_state.specs.Order.{classes_join, pool_join, brigade_join, join_here, cursor_join, is_at_hand, if_at_hand, kept_cursor, joined_brigades, joined_cursors, join}
 use Rattle.life_state.specs.Rules.{some_class}
 use Rattle.life_state.specs.Form.{NamesDeclared, FormedCursor, IsFormed}
 use Rattle.life_state.specs.FormLaws.{IsFormedIn, JoinsKeepForm, JoinsAbsorb}
@@ -14,7 +14,7 @@ use Rattle.life_state.proofs.JoinAbove.{join_above}
 use Rattle.life_state.proofs.JoinLeast.{join_least}
 use Rattle.life_state.proofs.OrderLaws.{leq_same}
 use Rattle.life_state.proofs.FormFacts.{known_turned}
-use Rattle.life_state.proofs.FormParts.{both_named, some_left, both_formed}
+use Rattle.life_state.proofs.FormParts.{homes_join_named, some_left, brigade_join_formed}
 use Rattle.life_state.proofs.FormMoves.{live_not_null, Based, with_facts}
 use Rattle.life_state.proofs.Tests.{split2, not_true, split3, and2, and3, or_left}
 
@@ -34,33 +34,33 @@ shaped s (In b t) f = (f.1.0, f.0)
 shaped s (End b) f = f.0
 shaped s (InOrEnd b t) f = (f.1.0, f.0)
 
-both_some : (t u : Classes) → some_class t ≡ true → some_class (both_classes t u) ≡ true
-both_some t u h = some_left t.bytes t.flush t.eos u.bytes u.flush u.eos h
+classes_join_some : (t u : Classes) → some_class t ≡ true → some_class (classes_join t u) ≡ true
+classes_join_some t u h = some_left t.bytes t.flush t.eos u.bytes u.flush u.eos h
 
 -- two cursors at one place
-here_shaped : (s : State) (x y : CursorKnown) → Shaped s x → Shaped s y → Shaped s (both_here x y)
+here_shaped : (s : State) (x y : CursorKnown) → Shaped s x → Shaped s y → Shaped s (join_here x y)
 unfolding Shaped
-here_shaped s (Loose t h) (Loose u k) f g = (both_some t u (f.0), both_named s h k (f.1) (g.1))
-here_shaped s (In b t) (In c u) f g = (f.0, both_some t u (f.1))
+here_shaped s (Loose t h) (Loose u k) f g = (classes_join_some t u (f.0), homes_join_named s h k (f.1) (g.1))
+here_shaped s (In b t) (In c u) f g = (f.0, classes_join_some t u (f.1))
 here_shaped s (In b t) (End c) f g = f
-here_shaped s (In b t) (InOrEnd c u) f g = (f.0, both_some t u (f.1))
+here_shaped s (In b t) (InOrEnd c u) f g = (f.0, classes_join_some t u (f.1))
 here_shaped s (End b) (In c u) f g = (f, g.1)
 here_shaped s (End b) (End c) f g = f
 here_shaped s (End b) (InOrEnd c u) f g = (f, g.1)
-here_shaped s (InOrEnd b t) (In c u) f g = (f.0, both_some t u (f.1))
+here_shaped s (InOrEnd b t) (In c u) f g = (f.0, classes_join_some t u (f.1))
 here_shaped s (InOrEnd b t) (End c) f g = f
-here_shaped s (InOrEnd b t) (InOrEnd c u) f g = (f.0, both_some t u (f.1))
+here_shaped s (InOrEnd b t) (InOrEnd c u) f g = (f.0, classes_join_some t u (f.1))
 here_shaped s Unset y f g = tt
 here_shaped s (Loose t h) y f g = tt
 here_shaped s (In b t) y f g = tt
 here_shaped s (End b) y f g = tt
 here_shaped s (InOrEnd b t) y f g = tt
 
-both_shaped : (s : State) (x y : CursorKnown) → Shaped s x → Shaped s y → Shaped s (both_cursors x y)
-unfolding Shaped both_cursors
-both_shaped s x y f g = either (place_of x == place_of y)
+cursor_join_shaped : (s : State) (x y : CursorKnown) → Shaped s x → Shaped s y → Shaped s (cursor_join x y)
+unfolding Shaped cursor_join
+cursor_join_shaped s x y f g = either (place_of x == place_of y)
   where
-    either : (e : Bool) → Shaped s (if e then both_here x y else Unset)
+    either : (e : Bool) → Shaped s (if e then join_here x y else Unset)
     either true = here_shaped s x y f g
     either false = tt
 
@@ -98,9 +98,9 @@ neither : (x y : Bool) → not x ≡ true → not y ≡ true → not (x || y) �
 neither true y h k = h
 neither false y h k = k
 
-both_live : (v w : BrigadeKnown) → is_live_brigade v ≡ true → is_live_brigade w ≡ true → is_live_brigade (both_brigades v w) ≡ true
-unfolding both_brigades
-both_live v w h k =
+brigade_join_live : (v w : BrigadeKnown) → is_live_brigade v ≡ true → is_live_brigade w ≡ true → is_live_brigade (brigade_join v w) ≡ true
+unfolding brigade_join
+brigade_join_live v w h k =
     let h3 = split3 v.live (not v.null) (not v.gone) h in
     let k3 = split3 w.live (not w.null) (not w.gone) k in
     and3 (v.live || w.live) (not (v.null || w.null)) (not (v.gone || w.gone)) (or_left v.live w.live (h3.0)) (neither v.null w.null (h3.1) (k3.1)) (neither v.gone w.gone (h3.2) (k3.2))
@@ -124,25 +124,25 @@ module _ (p : Program) (call : Bool) (a b : State) (f : IsFormedIn p call a) (g 
   same_brigades = g.brigades ∙ sym f.brigades
 
   -- both were never made, or both are live
-  in_both : (a.brigades 8 ≡ never_made) ⊎ (is_live_brigade (a.brigades 8) ≡ true) → (b.brigades 8 ≡ never_made) ⊎ (is_live_brigade (b.brigades 8) ≡ true)
+  in_join : (a.brigades 8 ≡ never_made) ⊎ (is_live_brigade (a.brigades 8) ≡ true) → (b.brigades 8 ≡ never_made) ⊎ (is_live_brigade (b.brigades 8) ≡ true)
       → (joined_brigades a b 8 ≡ never_made) ⊎ (is_live_brigade (joined_brigades a b 8) ≡ true)
-  unfolding both_brigades
-  in_both (inl x) (inl y) = inl (ap₂ both_brigades x y)
-  in_both (inr x) (inr y) = inr (both_live (a.brigades 8) (b.brigades 8) x y)
-  in_both (inl x) (inr y) = absurd (unlike (a.brigades 8) (b.brigades 8) call x y f.brought g.brought)
-  in_both (inr x) (inl y) = absurd (unlike (b.brigades 8) (a.brigades 8) call y x g.brought f.brought)
+  unfolding brigade_join
+  in_join (inl x) (inl y) = inl (ap₂ brigade_join x y)
+  in_join (inr x) (inr y) = inr (brigade_join_live (a.brigades 8) (b.brigades 8) x y)
+  in_join (inl x) (inr y) = absurd (unlike (a.brigades 8) (b.brigades 8) call x y f.brought g.brought)
+  in_join (inr x) (inl y) = absurd (unlike (b.brigades 8) (a.brigades 8) call y x g.brought f.brought)
 
   joined_based : Based p call (join a b)
-  unfolding join both_brigades
+  unfolding join brigade_join
   joined_based = record {
     pool_count = f.formed.pool_count;
     brigade_count = f.formed.brigade_count;
     pools = λ q. some_left (a.pools q).null (a.pools q).gone (a.pools q).live (b.pools q).null (b.pools q).gone (b.pools q).live (f.formed.pools q);
-    no_pools = λ q past. ap₂ both_pools (f.formed.no_pools q past) (g.formed.no_pools q (subst (λ (n : ℕ). n ≤ q) (sym same_pools) past));
-    brigades = λ v. both_formed (a.brigades v) (b.brigades v) (f.formed.brigades v) (g.formed.brigades v);
-    homes = λ v. both_named a (a.brigades v).homes (b.brigades v).homes (f.formed.homes v) (named_as b a (b.brigades v).homes same_pools (g.formed.homes v));
-    no_brigades = λ v past other. ap₂ both_brigades (f.formed.no_brigades v past other) (g.formed.no_brigades v (subst (λ (n : ℕ). n ≤ v) (sym same_brigades) past) other);
-    brought = in_both f.formed.brought g.formed.brought;
+    no_pools = λ q past. ap₂ pool_join (f.formed.no_pools q past) (g.formed.no_pools q (subst (λ (n : ℕ). n ≤ q) (sym same_pools) past));
+    brigades = λ v. brigade_join_formed (a.brigades v) (b.brigades v) (f.formed.brigades v) (g.formed.brigades v);
+    homes = λ v. homes_join_named a (a.brigades v).homes (b.brigades v).homes (f.formed.homes v) (named_as b a (b.brigades v).homes same_pools (g.formed.homes v));
+    no_brigades = λ v past other. ap₂ brigade_join (f.formed.no_brigades v past other) (g.formed.no_brigades v (subst (λ (n : ℕ). n ≤ v) (sym same_brigades) past) other);
+    brought = in_join f.formed.brought g.formed.brought;
     own_pools = f.pools;
     own_brigades = f.brigades;
     present = same_null (a.brigades 8).null (b.brigades 8).null call f.brought g.brought;
@@ -151,12 +151,12 @@ module _ (p : Program) (call : Bool) (a b : State) (f : IsFormedIn p call a) (g 
   cursor_joined : (c : ℕ) → FormedCursor (join a b) (joined_cursors a b c)
   unfolding join Shaped
   cursor_joined c =
-      kept_formed (join a b) (both_cursors (a.cursors c) (b.cursors c))
-      (both_shaped (join a b) (a.cursors c) (b.cursors c) (shaped a (a.cursors c) (f.formed.cursors c)) (renamed b a (b.cursors c) same_pools (shaped b (b.cursors c) (g.formed.cursors c))))
+      kept_formed (join a b) (cursor_join (a.cursors c) (b.cursors c))
+      (cursor_join_shaped (join a b) (a.cursors c) (b.cursors c) (shaped a (a.cursors c) (f.formed.cursors c)) (renamed b a (b.cursors c) same_pools (shaped b (b.cursors c) (g.formed.cursors c))))
 
   unset_joined : (c : ℕ) → 9 ≤ c → joined_cursors a b c ≡ Unset
-  unfolding both_cursors
-  unset_joined c h = ap₂ (λ x y. kept_cursor (joined_brigades a b) (both_cursors x y)) (f.formed.no_cursors c h) (g.formed.no_cursors c h)
+  unfolding cursor_join
+  unset_joined c h = ap₂ (λ x y. kept_cursor (joined_brigades a b) (cursor_join x y)) (f.formed.no_cursors c h) (g.formed.no_cursors c h)
 
   joined_formed : IsFormedIn p call (join a b)
   unfolding join Shaped

@@ -10,7 +10,7 @@ use Rattle.life_state.specs.declared.parts.Classes.{Classes}
 use Rattle.life_state.specs.declared.parts.PoolState.{PoolState}
 use Rattle.life_state.specs.States.{Homes, BrigadeKnown, CursorKnown, Unset, Loose, In, End, InOrEnd, State}
 use Rattle.life_state.specs.Facts.{is_set, is_apart, known}
-use Rattle.life_state.specs.Order.{implies, all_below, rank, content_le, classes_le, pool_le, places_le, homes_le, cursor_le}
+use Rattle.life_state.specs.Order.{implies, all_below, rank, content_leq, classes_leq, pool_leq, places_leq, homes_leq, cursor_leq}
 use Rattle.life_state.specs.Form.{NamesDeclared, FormedCursor, IsFormed}
 use Rattle.life_state.specs.Laws.{Below, LeqIsAntisymmetric}
 use Rattle.life_state.proofs.Tests.{split2, split3, all_at, not_true, or_either}
@@ -29,13 +29,13 @@ same_by true b p q = sym (p refl)
 same_by false true p q = q refl
 same_by false false p q = refl
 
-pool_both : (s t : PoolState) → pool_le s t ≡ true → pool_le t s ≡ true → s ≡ t
+pool_both : (s t : PoolState) → pool_leq s t ≡ true → pool_leq t s ≡ true → s ≡ t
 pool_both s t p q =
     let p3 = split3 (implies s.null t.null) (implies s.gone t.gone) (implies s.live t.live) p in
     let q3 = split3 (implies t.null s.null) (implies t.gone s.gone) (implies t.live s.live) q in
     λ i. record { null = same_test s.null t.null (p3.0) (q3.0) i; gone = same_test s.gone t.gone (p3.1) (q3.1) i; live = same_test s.live t.live (p3.2) (q3.2) i }
 
-classes_both : (s t : Classes) → classes_le s t ≡ true → classes_le t s ≡ true → s ≡ t
+classes_both : (s t : Classes) → classes_leq s t ≡ true → classes_leq t s ≡ true → s ≡ t
 classes_both s t p q =
     let p3 = split3 (implies s.bytes t.bytes) (implies s.flush t.flush) (implies s.eos t.eos) p in
     let q3 = split3 (implies t.bytes s.bytes) (implies t.flush s.flush) (implies t.eos s.eos) q in
@@ -52,7 +52,7 @@ rank_of NoEos = refl
 rank_of NoLateData = refl
 rank_of Any = refl
 
-content_both : (a b : Contents) → content_le a b ≡ true → content_le b a ≡ true → a ≡ b
+content_both : (a b : Contents) → content_leq a b ≡ true → content_leq b a ≡ true → a ≡ b
 content_both a b p q =
     let first : rank a ≤ rank b = leb-true (rank a) (rank b) p in
     let second : rank b ≤ rank a = leb-true (rank b) (rank a) q in
@@ -71,11 +71,11 @@ none_past h q few past = either (h.at (pool.Own q)) refl
     either true e = absurd (omega (arith, few.1 q e))
     either false e = e
 
-homes_both : (h k : Homes) → Few h → Few k → homes_le h k ≡ true → homes_le k h ≡ true → h ≡ k
+homes_both : (h k : Homes) → Few h → Few k → homes_leq h k ≡ true → homes_leq k h ≡ true → h ≡ k
 unfolding Few
 homes_both h k few less p q =
-    let p3 = split3 (implies h.call k.call) (implies h.dead k.dead) (places_le h.at k.at) p in
-    let q3 = split3 (implies k.call h.call) (implies k.dead h.dead) (places_le k.at h.at) q in
+    let p3 = split3 (implies h.call k.call) (implies h.dead k.dead) (places_leq h.at k.at) p in
+    let q3 = split3 (implies k.call h.call) (implies k.dead h.dead) (places_leq k.at h.at) q in
     let p2 = split2 (implies (h.at pool.Req) (k.at pool.Req)) (all_below 8 (λ i. implies (h.at (pool.Own i)) (k.at (pool.Own i)))) (p3.2) in
     let q2 = split2 (implies (k.at pool.Req) (h.at pool.Req)) (all_below 8 (λ i. implies (k.at (pool.Own i)) (h.at (pool.Own i)))) (q3.2) in
     λ i. record { call = same_test h.call k.call (p3.0) (q3.0) i; dead = same_test h.dead k.dead (p3.1) (q3.1) i; at = fun_ext (each (p2.0) (q2.0) (p2.1) (q2.1)) i }
@@ -111,20 +111,20 @@ FewAt (In b t) = Unit {0}
 FewAt (End b) = Unit {0}
 FewAt (InOrEnd b t) = Unit {0}
 
-cursor_both : (x y : CursorKnown) → FewAt x → FewAt y → cursor_le x y ≡ true → cursor_le y x ≡ true → x ≡ y
+cursor_both : (x y : CursorKnown) → FewAt x → FewAt y → cursor_leq x y ≡ true → cursor_leq y x ≡ true → x ≡ y
 unfolding FewAt
 cursor_both Unset Unset f g p q = refl
 cursor_both (Loose t h) (Loose u k) f g p q =
-    let p2 = split2 (classes_le t u) (homes_le h k) p in
-    let q2 = split2 (classes_le u t) (homes_le k h) q in
+    let p2 = split2 (classes_leq t u) (homes_leq h k) p in
+    let q2 = split2 (classes_leq u t) (homes_leq k h) q in
     ap₂ Loose (classes_both t u (p2.0) (q2.0)) (homes_both h k f g (p2.1) (q2.1))
 cursor_both (In b t) (In c u) f g p q =
-    let p2 = split2 (b == c) (classes_le t u) p in
-    ap₂ In (eqb-true b c (p2.0)) (classes_both t u (p2.1) ((split2 (c == b) (classes_le u t) q).1))
+    let p2 = split2 (b == c) (classes_leq t u) p in
+    ap₂ In (eqb-true b c (p2.0)) (classes_both t u (p2.1) ((split2 (c == b) (classes_leq u t) q).1))
 cursor_both (End b) (End c) f g p q = ap End (eqb-true b c p)
 cursor_both (InOrEnd b t) (InOrEnd c u) f g p q =
-    let p2 = split2 (b == c) (classes_le t u) p in
-    ap₂ InOrEnd (eqb-true b c (p2.0)) (classes_both t u (p2.1) ((split2 (c == b) (classes_le u t) q).1))
+    let p2 = split2 (b == c) (classes_leq t u) p in
+    ap₂ InOrEnd (eqb-true b c (p2.0)) (classes_both t u (p2.1) ((split2 (c == b) (classes_leq u t) q).1))
 cursor_both x y f g p q = cc
 
 few : (s : State) (h : Homes) → s.pool_count ≤ 8 → NamesDeclared s h → Few h

@@ -6,9 +6,9 @@ use Rattle.module_code.specs.declared.instr.PoolRef.TheVariants as pool
 use Rattle.module_code.specs.Tables.{place_is_declared}
 use Rattle.life_state.specs.declared.parts.Contents.{Contents}
 use Rattle.life_state.specs.declared.parts.PoolState.{PoolState}
-use Rattle.life_state.specs.States.{Homes, no_homes, only_call, home_in, both_homes, dead_where, ended_pool, BrigadeKnown, never_made, holds, passed_on, is_live_brigade, is_usable_alone}
+use Rattle.life_state.specs.States.{Homes, no_homes, only_call, home_in, homes_join, dead_where, ended_pool, BrigadeKnown, never_made, holds, passed_on, is_live_brigade, is_usable_alone}
 use Rattle.life_state.specs.States.{ended_brigade, with_homes, State}
-use Rattle.life_state.specs.Order.{greater, both_brigades, is_at_hand}
+use Rattle.life_state.specs.Order.{content_join, brigade_join, is_at_hand}
 use Rattle.life_state.specs.Rules.{brigade_not_null}
 use Rattle.life_state.specs.Form.{some_pool, NamesDeclared, FormedBrigade}
 use Rattle.life_state.proofs.ClearLaws.{none_dead}
@@ -22,8 +22,8 @@ no_named s = (refl, λ q h. cc)
 pub call_named : (s : State) → NamesDeclared s only_call
 call_named s = (refl, λ q h. cc)
 
-pub both_named : (s : State) (h k : Homes) → NamesDeclared s h → NamesDeclared s k → NamesDeclared s (both_homes h k)
-both_named s h k a b =
+pub homes_join_named : (s : State) (h k : Homes) → NamesDeclared s h → NamesDeclared s k → NamesDeclared s (homes_join h k)
+homes_join_named s h k a b =
     (ap₂ ◌||◌ (a.0) (b.0), λ q e. ⊎_elim (a.1 q) (b.1 q) (or_either (h.at (pool.Own q)) (k.at (pool.Own q)) e))
 
 pub dead_named : (s : State) (under : PoolRef → Bool) (h : Homes) → NamesDeclared s h → NamesDeclared s (dead_where under h)
@@ -97,13 +97,13 @@ crossed false true false d = refl
 crossed false false true d = refl
 crossed false false false d = refl
 
-pub both_formed : (a b : BrigadeKnown) → FormedBrigade a → FormedBrigade b → FormedBrigade (both_brigades a b)
-unfolding both_brigades
-both_formed a b f g = record {
+pub brigade_join_formed : (a b : BrigadeKnown) → FormedBrigade a → FormedBrigade b → FormedBrigade (brigade_join a b)
+unfolding brigade_join
+brigade_join_formed a b f g = record {
   some = some_left a.null a.gone a.live b.null b.gone b.live f.some;
   marks = ap₂ ◌||◌ f.marks g.marks ∙ crossed a.usable a.passed b.usable b.passed;
   bare = λ e. let off = or_false a.usable b.usable e in
-      (ap₂ greater ((f.bare (off.0)).0) ((g.bare (off.1)).0), ap₂ both_homes ((f.bare (off.0)).1) ((g.bare (off.1)).1));
+      (ap₂ content_join ((f.bare (off.0)).0) ((g.bare (off.1)).0), ap₂ homes_join ((f.bare (off.0)).1) ((g.bare (off.1)).1));
 }
 
 -- what is live and usable is not null

@@ -24,7 +24,7 @@ use Rattle.run_model.proofs.WithEffects.{fits_with, made_cursor}
 use Rattle.run_model.specs.declared.fault.FaultKind.{FaultKind}
 use Rattle.run_model.specs.Faults.{WUsable, wants}
 use Rattle.life_state.specs.declared.parts.Classes.{Classes}
-use Rattle.life_state.specs.States.{home_in, both_homes, only_null, only_live, ended_pool, BrigadeKnown, never_made, is_live_brigade, CursorKnown, Unset, Loose, In, End, InOrEnd}
+use Rattle.life_state.specs.States.{home_in, homes_join, only_null, only_live, ended_pool, BrigadeKnown, never_made, is_live_brigade, CursorKnown, Unset, Loose, In, End, InOrEnd}
 use Rattle.life_state.specs.States.{State, set_pool, set_brigade}
 use Rattle.life_state.specs.Facts.{known}
 use Rattle.life_state.specs.Rules.{need, first_need, Edges, some_if, some_class, told, with_classes, classes_of, told_classes, no_other, side_content}
@@ -32,10 +32,10 @@ use Rattle.life_state.specs.Rules.{edges_jend, edges_jnull, after, on_condition,
 use Rattle.life_state.specs.Rules.{not_of_kind}
 use Rattle.life_state.specs.Form.{NamesDeclared, AtHand, FormedCursor}
 use Rattle.life_state.specs.FormLaws.{IsFormedIn, RulesKeepForm}
-use Rattle.life_state.proofs.FormParts.{no_named, both_named, home_named, ended_some, never_formed, not_null_formed, hand_not_null}
+use Rattle.life_state.proofs.FormParts.{no_named, homes_join_named, home_named, ended_some, never_formed, not_null_formed, hand_not_null}
 use Rattle.life_state.proofs.FormMoves.{live_not_null, set_cursor_formed, told_formed, brigade_formed, pool_formed}
 use Rattle.life_state.proofs.FormNeeds.{live_there, hand_there, place_there, on_loose, in_brigade}
-use Rattle.life_state.proofs.FormSteps.{hand_live, classes_formed, emptied_at, bcreate_formed, bclean_formed, join_formed, bsplit_formed, pass_formed, sent_formed, first_formed, next_formed}
+use Rattle.life_state.proofs.FormSteps.{hand_live, classes_formed, emptied_at, bcreate_formed, bclean_formed, concat_formed, bsplit_formed, pass_formed, sent_formed, first_formed, next_formed}
 use Rattle.life_state.proofs.FormSteps.{unlink_formed, bdelete_formed, put_formed, before_formed, aside_formed}
 use Rattle.life_state.proofs.FormClears.{cleared_formed}
 use Rattle.life_state.proofs.Sources.{made_formed}
@@ -125,13 +125,13 @@ module _ (p : Program) (call : Bool) (s : State) (m : IsModule p) (f : IsFormedI
   after_formed (effect.MakeBrigade o) fit a h = bcreate_formed p call s o f (own_brigade s o f (a.first.0))
   after_formed (effect.Clean b) fit a h = bclean_formed p call s b f (live_there (s.brigades b) (h.0))
   after_formed (effect.Concat b d) fit a h =
-      join_formed p call s b d (both_homes (s.brigades b).homes (s.brigades d).homes) f (hand b (h.0)) (live d (h.1.0))
-      (both_named s (s.brigades b).homes (s.brigades d).homes (f.formed.homes b) (f.formed.homes d))
+      concat_formed p call s b d (homes_join (s.brigades b).homes (s.brigades d).homes) f (hand b (h.0)) (live d (h.1.0))
+      (homes_join_named s (s.brigades b).homes (s.brigades d).homes (f.formed.homes b) (f.formed.homes d))
   after_formed (effect.SplitBrigade b c d) fit a h = bsplit_formed p call s b c d f (hand d (h.1.1.0))
   after_formed (effect.PartBrigade b x c) fit a h = first_formed p call s c b f (cursor_number c (a.third.0)) (hand b (h.0))
   after_formed (effect.Save o b) fit a h =
-      join_formed p call s o b (both_homes (s.brigades o).homes (home_in (pool_of_brigade p o))) f (hand o (h.0)) (live b (h.1.0))
-      (both_named s (s.brigades o).homes (home_in (pool_of_brigade p o)) (f.formed.homes o) (brigades_home o))
+      concat_formed p call s o b (homes_join (s.brigades o).homes (home_in (pool_of_brigade p o))) f (hand o (h.0)) (live b (h.1.0))
+      (homes_join_named s (s.brigades o).homes (home_in (pool_of_brigade p o)) (f.formed.homes o) (brigades_home o))
   after_formed (effect.Pass b) fit a h = pass_formed p call s b f (live b (h.0))
   after_formed (effect.First c b) fit a h = first_formed p call s c b f (cursor_number c (a.first.0)) (hand b (h.0))
   after_formed (effect.Next d c) fit a h = next_formed p call s d c (s.cursors c) f (cursor_number d (a.first.0)) (f.formed.cursors c)

@@ -7,16 +7,16 @@ use Rattle.run_model.proofs.Updates.{upd_at, upd_either}
 use Rattle.life_state.specs.declared.parts.Contents.{Contents}
 use Rattle.life_state.specs.declared.parts.Contents.TheVariants.{Empty, Flushes, NoEos, NoLateData, Any}
 use Rattle.life_state.specs.declared.parts.Classes.{Classes}
-use Rattle.life_state.specs.States.{Homes, no_homes, home_in, both_homes, BrigadeKnown, holds, passed_on, is_live_brigade, is_usable_alone, with_homes, CursorKnown, Unset, Loose, In, End, InOrEnd}
+use Rattle.life_state.specs.States.{Homes, no_homes, home_in, homes_join, BrigadeKnown, holds, passed_on, is_live_brigade, is_usable_alone, with_homes, CursorKnown, Unset, Loose, In, End, InOrEnd}
 use Rattle.life_state.specs.States.{State, set_brigade}
 use Rattle.life_state.specs.Facts.{is_end, moved}
 use Rattle.life_state.specs.Order.{is_at_hand}
-use Rattle.life_state.specs.Rules.{homes_at, joined_content, emptied, left, carried, split_off, after_bcreate, after_bclean, after_join, after_bsplit, bucket_or_end, after_first, after_next, no_other}
+use Rattle.life_state.specs.Rules.{homes_at, concat_content, emptied, left, carried, split_off, after_bcreate, after_bclean, after_concat, after_bsplit, bucket_or_end, after_first, after_next, no_other}
 use Rattle.life_state.specs.Rules.{some_class, with_classes, classes_of, after_unlink, after_bdelete, put_in, before_content, after_before, if_brigade, after_aside}
 use Rattle.life_state.specs.Rules.{may_end, after_pass}
 use Rattle.life_state.specs.Form.{NamesDeclared, AtHand, FormedCursor}
 use Rattle.life_state.specs.FormLaws.{IsFormedIn}
-use Rattle.life_state.proofs.FormParts.{no_named, both_named, holds_formed, passed_formed, usable_formed}
+use Rattle.life_state.proofs.FormParts.{no_named, homes_join_named, holds_formed, passed_formed, usable_formed}
 use Rattle.life_state.proofs.FormMoves.{hand_kept, unset_if, based, moved_formed, set_cursor_formed, move_bucket_formed, brigade_based, brigade_formed, assembled}
 use Rattle.life_state.proofs.Tests.{split2}
 
@@ -146,10 +146,10 @@ module _ (p : Program) (call : Bool) where
       moved_formed p call t (λ k. emptied b (s.cursors k)) (based p call t g) f.formed.symmetric
       (λ k. emptied_formed t b (s.cursors k) (g.formed.cursors k)) (λ k h. ap (emptied b) (f.formed.no_cursors k h))
 
-  pub join_formed : (s : State) (a b : ℕ) (homes : Homes) → IsFormedIn p call s → AtHand s a → is_live_brigade (s.brigades b) ≡ true → NamesDeclared s homes
-      → IsFormedIn p call (after_join a b homes s)
-  join_formed s a b homes f hand live named =
-      let c = joined_content (s.brigades a).content (s.brigades b).content in
+  pub concat_formed : (s : State) (a b : ℕ) (homes : Homes) → IsFormedIn p call s → AtHand s a → is_live_brigade (s.brigades b) ≡ true → NamesDeclared s homes
+      → IsFormedIn p call (after_concat a b homes s)
+  concat_formed s a b homes f hand live named =
+      let c = concat_content (s.brigades a).content (s.brigades b).content in
       let t = set_brigade a (holds c homes) s in
       let u = after_bcreate b t in
       let g = emptied_at t b (holds_at s a c homes f (hand_live (s.brigades a) (hand.1)) named) (still_live s a b c homes live) in
@@ -208,10 +208,10 @@ module _ (p : Program) (call : Bool) where
   pub put_formed : (content : Contents → Classes → Contents) (s : State) (b c : ℕ) → IsFormedIn p call s → c < 9 → AtHand s b → AtBucket (s.cursors c) → IsFormedIn p call (put_in content b c s)
   put_formed content s b c f inside hand at =
       let here = loose_formed s (s.cursors c) f (f.formed.cursors c) at in
-      let homes = both_homes (s.brigades b).homes (homes_at s (s.cursors c)) in
+      let homes = homes_join (s.brigades b).homes (homes_at s (s.cursors c)) in
       let now = content (s.brigades b).content (classes_of (s.cursors c)) in
       let t = set_brigade b (holds now homes) s in
-      let g = holds_at s b now homes f (hand_live (s.brigades b) (hand.1)) (both_named s (s.brigades b).homes (homes_at s (s.cursors c)) (f.formed.homes b) (here.1)) in
+      let g = holds_at s b now homes f (hand_live (s.brigades b) (hand.1)) (homes_join_named s (s.brigades b).homes (homes_at s (s.cursors c)) (f.formed.homes b) (here.1)) in
       move_bucket_formed p call t c (In b (classes_of (s.cursors c))) g inside (here.0, written s b now homes hand)
 
   if_formed : (b : ℕ) (s t : State) → IsFormedIn p call s → IsFormedIn p call t → IsFormedIn p call (if_brigade b t s)
@@ -234,9 +234,9 @@ module _ (p : Program) (call : Bool) where
       let v = s.brigades b in
       let hand = here.1 in
       let live = hand_live v (hand.1) in
-      if_formed b s (set_brigade b (with_homes (both_homes (home_in q)) v) s) f
-      (brigade_formed p call s b (with_homes (both_homes (home_in q)) v) f (inr (live, live)) (usable_formed (both_homes (home_in q)) v (hand.1) (f.formed.brigades b))
-      (both_named s (home_in q) v.homes named (f.formed.homes b)) (λ e. e))
+      if_formed b s (set_brigade b (with_homes (homes_join (home_in q)) v) s) f
+      (brigade_formed p call s b (with_homes (homes_join (home_in q)) v) f (inr (live, live)) (usable_formed (homes_join (home_in q)) v (hand.1) (f.formed.brigades b))
+      (homes_join_named s (home_in q) v.homes named (f.formed.homes b)) (λ e. e))
   aside_formed s c q Unset f inside named here = f
   aside_formed s c q (End b) f inside named here = f
   aside_formed s c q (InOrEnd b t) f inside named here = f

@@ -6,15 +6,15 @@ use Rattle.module_code.specs.declared.instr.PoolRef.TheVariants as pool
 use Rattle.life_state.specs.declared.parts.Contents.{Contents}
 use Rattle.life_state.specs.declared.parts.Classes.{Classes}
 use Rattle.life_state.specs.declared.parts.PoolState.{PoolState}
-use Rattle.life_state.specs.States.{Homes, both_homes, BrigadeKnown, is_live_brigade, is_usable_alone, CursorKnown, Unset, Loose, In, End, InOrEnd, State}
+use Rattle.life_state.specs.States.{Homes, homes_join, BrigadeKnown, is_live_brigade, is_usable_alone, CursorKnown, Unset, Loose, In, End, InOrEnd, State}
 use Rattle.life_state.specs.Facts.{is_set, is_apart, place_of, known, facts_of}
-use Rattle.life_state.specs.Order.{implies, all_below, content_le, greater, classes_le, both_classes, pool_le, both_pools, places_le, homes_le, variable_le, marks_le, brigade_le, both_brigades}
-use Rattle.life_state.specs.Order.{cursor_le, both_here, both_cursors, is_at_hand, kept_cursor, joined_brigades, joined_cursors, join}
+use Rattle.life_state.specs.Order.{implies, all_below, content_leq, content_join, classes_leq, classes_join, pool_leq, pool_join, places_leq, homes_leq, variable_leq, marks_leq, brigade_leq, brigade_join}
+use Rattle.life_state.specs.Order.{cursor_leq, join_here, cursor_join, is_at_hand, kept_cursor, joined_brigades, joined_cursors, join}
 use Rattle.life_state.specs.Form.{FormedBrigade, AtHand, FormedCursor, IsFormed}
 use Rattle.life_state.specs.Laws.{Below, JoinIsLeast}
 use Rattle.life_state.proofs.Below.{all_below_holds}
 use Rattle.life_state.proofs.Tests.{split2, and2, split3, and3, or_either, or_left, or_right, all_at}
-use Rattle.life_state.proofs.PartsOrder.{le_set, le_place}
+use Rattle.life_state.proofs.PartsOrder.{leq_set, leq_place}
 use Rattle.life_state.proofs.OrderLaws.{leq_says, leq_holds}
 
 implies_or : (a b u : Bool) → implies a u ≡ true → implies b u ≡ true → implies (a || b) u ≡ true
@@ -48,29 +48,29 @@ three_least a b c x y z u v w p q =
     and3 (implies (a || x) u) (implies (b || y) v) (implies (c || z) w) (implies_or a x u (p3.0) (q3.0)) (implies_or b y v (p3.1) (q3.1))
     (implies_or c z w (p3.2) (q3.2))
 
-classes_least : (s t u : Classes) → classes_le s u ≡ true → classes_le t u ≡ true → classes_le (both_classes s t) u ≡ true
+classes_least : (s t u : Classes) → classes_leq s u ≡ true → classes_leq t u ≡ true → classes_leq (classes_join s t) u ≡ true
 classes_least s t u = three_least s.bytes s.flush s.eos t.bytes t.flush t.eos u.bytes u.flush u.eos
 
-pool_least : (s t u : PoolState) → pool_le s u ≡ true → pool_le t u ≡ true → pool_le (both_pools s t) u ≡ true
+pool_least : (s t u : PoolState) → pool_leq s u ≡ true → pool_leq t u ≡ true → pool_leq (pool_join s t) u ≡ true
 pool_least s t u = three_least s.null s.gone s.live t.null t.gone t.live u.null u.gone u.live
 
-pub homes_least : (a b u : Homes) → homes_le a u ≡ true → homes_le b u ≡ true → homes_le (both_homes a b) u ≡ true
+pub homes_least : (a b u : Homes) → homes_leq a u ≡ true → homes_leq b u ≡ true → homes_leq (homes_join a b) u ≡ true
 homes_least a b u p q =
-    let p3 = split3 (implies a.call u.call) (implies a.dead u.dead) (places_le a.at u.at) p in
-    let q3 = split3 (implies b.call u.call) (implies b.dead u.dead) (places_le b.at u.at) q in
+    let p3 = split3 (implies a.call u.call) (implies a.dead u.dead) (places_leq a.at u.at) p in
+    let q3 = split3 (implies b.call u.call) (implies b.dead u.dead) (places_leq b.at u.at) q in
     let pp = split2 (implies (a.at pool.Req) (u.at pool.Req)) (all_below 8 (λ i. implies (a.at (pool.Own i)) (u.at (pool.Own i)))) (p3.2) in
     let qq = split2 (implies (b.at pool.Req) (u.at pool.Req)) (all_below 8 (λ i. implies (b.at (pool.Own i)) (u.at (pool.Own i)))) (q3.2) in
-    let both : PoolRef → Bool = λ k. a.at k || b.at k in
-    and3 (implies (a.call || b.call) u.call) (implies (a.dead || b.dead) u.dead) (places_le both u.at) (implies_or a.call b.call u.call (p3.0) (q3.0)) (implies_or a.dead b.dead u.dead (p3.1) (q3.1))
-    (and2 (implies (both pool.Req) (u.at pool.Req)) (all_below 8 (λ i. implies (both (pool.Own i)) (u.at (pool.Own i)))) (implies_or (a.at pool.Req) (b.at pool.Req) (u.at pool.Req) (pp.0) (qq.0))
-    (all_below_holds 8 (λ i. implies (both (pool.Own i)) (u.at (pool.Own i)))
+    let joined : PoolRef → Bool = λ k. a.at k || b.at k in
+    and3 (implies (a.call || b.call) u.call) (implies (a.dead || b.dead) u.dead) (places_leq joined u.at) (implies_or a.call b.call u.call (p3.0) (q3.0)) (implies_or a.dead b.dead u.dead (p3.1) (q3.1))
+    (and2 (implies (joined pool.Req) (u.at pool.Req)) (all_below 8 (λ i. implies (joined (pool.Own i)) (u.at (pool.Own i)))) (implies_or (a.at pool.Req) (b.at pool.Req) (u.at pool.Req) (pp.0) (qq.0))
+    (all_below_holds 8 (λ i. implies (joined (pool.Own i)) (u.at (pool.Own i)))
     (λ k h. implies_or (a.at (pool.Own k)) (b.at (pool.Own k)) (u.at (pool.Own k)) (all_at 8 k (λ i. implies (a.at (pool.Own i)) (u.at (pool.Own i))) (pp.1) h)
     (all_at 8 k (λ i. implies (b.at (pool.Own i)) (u.at (pool.Own i))) (qq.1) h))))
 
-content_least : (a b u : Contents) → content_le a u ≡ true → content_le b u ≡ true → content_le (greater a b) u ≡ true
-content_least a b u p q = pick (content_le a b)
+content_least : (a b u : Contents) → content_leq a u ≡ true → content_leq b u ≡ true → content_leq (content_join a b) u ≡ true
+content_least a b u p q = pick (content_leq a b)
   where
-    pick : (t : Bool) → content_le (if t then b else a) u ≡ true
+    pick : (t : Bool) → content_leq (if t then b else a) u ≡ true
     pick true = q
     pick false = p
 
@@ -81,24 +81,24 @@ pub record BrigadeParts (a u : BrigadeKnown) : Type 0 where
   pub live : implies a.live u.live ≡ true
   pub usable : implies a.usable u.usable ≡ true
   pub passed : implies a.passed u.passed ≡ true
-  pub content : content_le a.content u.content ≡ true
-  pub homes : homes_le a.homes u.homes ≡ true
+  pub content : content_leq a.content u.content ≡ true
+  pub homes : homes_leq a.homes u.homes ≡ true
 
-pub parts : (a u : BrigadeKnown) → brigade_le a u ≡ true → BrigadeParts a u
-unfolding brigade_le
+pub parts : (a u : BrigadeKnown) → brigade_leq a u ≡ true → BrigadeParts a u
+unfolding brigade_leq
 parts a u p =
-    let p2 = split2 (variable_le a u && marks_le a u && content_le a.content u.content) (homes_le a.homes u.homes) p in
-    let p3 = split3 (variable_le a u) (marks_le a u) (content_le a.content u.content) (p2.0) in
+    let p2 = split2 (variable_leq a u && marks_leq a u && content_leq a.content u.content) (homes_leq a.homes u.homes) p in
+    let p3 = split3 (variable_leq a u) (marks_leq a u) (content_leq a.content u.content) (p2.0) in
     let v3 = split3 (implies a.null u.null) (implies a.gone u.gone) (implies a.live u.live) (p3.0) in
     let m2 = split2 (implies a.usable u.usable) (implies a.passed u.passed) (p3.1) in
     record { null = v3.0; gone = v3.1; live = v3.2; usable = m2.0; passed = m2.1; content = p3.2; homes = p2.1 }
 
-brigade_least : (a b u : BrigadeKnown) → BrigadeParts a u → BrigadeParts b u → brigade_le (both_brigades a b) u ≡ true
-unfolding brigade_le both_brigades
+brigade_least : (a b u : BrigadeKnown) → BrigadeParts a u → BrigadeParts b u → brigade_leq (brigade_join a b) u ≡ true
+unfolding brigade_leq brigade_join
 brigade_least a b u p q =
-    let both = both_brigades a b in
-    and2 (variable_le both u && marks_le both u && content_le (greater a.content b.content) u.content) (homes_le (both_homes a.homes b.homes) u.homes)
-    (and3 (variable_le both u) (marks_le both u) (content_le (greater a.content b.content) u.content)
+    let joined = brigade_join a b in
+    and2 (variable_leq joined u && marks_leq joined u && content_leq (content_join a.content b.content) u.content) (homes_leq (homes_join a.homes b.homes) u.homes)
+    (and3 (variable_leq joined u) (marks_leq joined u) (content_leq (content_join a.content b.content) u.content)
     (and3 (implies (a.null || b.null) u.null) (implies (a.gone || b.gone) u.gone) (implies (a.live || b.live) u.live)
     (implies_or a.null b.null u.null p.null q.null) (implies_or a.gone b.gone u.gone p.gone q.gone) (implies_or a.live b.live u.live p.live q.live))
     (and2 (implies (a.usable || b.usable) u.usable) (implies (a.passed || b.passed) u.passed) (implies_or a.usable b.usable u.usable p.usable q.usable)
@@ -107,8 +107,8 @@ brigade_least a b u p q =
     (homes_least a.homes b.homes u.homes p.homes q.homes)
 
 -- a brigade that is exactly usable above two is so in their join
-hand_joined : (a b u : BrigadeKnown) → FormedBrigade a → BrigadeParts a u → BrigadeParts b u → is_at_hand u ≡ true → is_at_hand (both_brigades a b) ≡ true
-unfolding both_brigades
+hand_joined : (a b u : BrigadeKnown) → FormedBrigade a → BrigadeParts a u → BrigadeParts b u → is_at_hand u ≡ true → is_at_hand (brigade_join a b) ≡ true
+unfolding brigade_join
 hand_joined a b u formed p q h =
     let u2 = split2 (is_live_brigade u) (is_usable_alone u) h in
     let v3 = split3 u.live (not u.null) (not u.gone) (u2.0) in
@@ -132,22 +132,22 @@ hand_joined a b u formed p q h =
     turn false true h = refl
     turn false false h = cc
 
-at_least : (b c d : ℕ) (s t u : Classes) → (b == d && classes_le s u) ≡ true → (c == d && classes_le t u) ≡ true → (b == d && classes_le (both_classes s t) u) ≡ true
+at_least : (b c d : ℕ) (s t u : Classes) → (b == d && classes_leq s u) ≡ true → (c == d && classes_leq t u) ≡ true → (b == d && classes_leq (classes_join s t) u) ≡ true
 at_least b c d s t u p q =
-    let p2 = split2 (b == d) (classes_le s u) p in
-    let q2 = split2 (c == d) (classes_le t u) q in
-    and2 (b == d) (classes_le (both_classes s t) u) (p2.0) (classes_least s t u (p2.1) (q2.1))
+    let p2 = split2 (b == d) (classes_leq s u) p in
+    let q2 = split2 (c == d) (classes_leq t u) q in
+    and2 (b == d) (classes_leq (classes_join s t) u) (p2.0) (classes_least s t u (p2.1) (q2.1))
 
 -- the end of b, and a bucket of c
-end_least : (b c d : ℕ) (t u : Classes) → (b == d) ≡ true → (c == d && classes_le t u) ≡ true → (b == d && classes_le t u) ≡ true
-end_least b c d t u p q = and2 (b == d) (classes_le t u) p ((split2 (c == d) (classes_le t u) q).1)
+end_least : (b c d : ℕ) (t u : Classes) → (b == d) ≡ true → (c == d && classes_leq t u) ≡ true → (b == d && classes_leq t u) ≡ true
+end_least b c d t u p q = and2 (b == d) (classes_leq t u) p ((split2 (c == d) (classes_leq t u) q).1)
 
-here_least : (x y v : CursorKnown) → cursor_le x v ≡ true → cursor_le y v ≡ true → cursor_le (both_here x y) v ≡ true
+here_least : (x y v : CursorKnown) → cursor_leq x v ≡ true → cursor_leq y v ≡ true → cursor_leq (join_here x y) v ≡ true
 here_least x y Unset p q = refl
 here_least (Loose s h) (Loose t k) (Loose u l) p q =
-    let p2 = split2 (classes_le s u) (homes_le h l) p in
-    let q2 = split2 (classes_le t u) (homes_le k l) q in
-    and2 (classes_le (both_classes s t) u) (homes_le (both_homes h k) l) (classes_least s t u (p2.0) (q2.0)) (homes_least h k l (p2.1) (q2.1))
+    let p2 = split2 (classes_leq s u) (homes_leq h l) p in
+    let q2 = split2 (classes_leq t u) (homes_leq k l) q in
+    and2 (classes_leq (classes_join s t) u) (homes_leq (homes_join h k) l) (classes_least s t u (p2.0) (q2.0)) (homes_least h k l (p2.1) (q2.1))
 here_least (In b s) (In c t) (In d u) p q = at_least b c d s t u p q
 here_least (End b) (End c) (End d) p q = p
 here_least (In b s) (In c t) (InOrEnd d u) p q = at_least b c d s t u p q
@@ -177,16 +177,16 @@ Hand brigades (In b s) = is_at_hand (brigades b) ≡ true
 Hand brigades (End b) = is_at_hand (brigades b) ≡ true
 Hand brigades (InOrEnd b s) = is_at_hand (brigades b) ≡ true
 
-picked : (z v : CursorKnown) (t : Bool) → t ≡ true → cursor_le z v ≡ true → cursor_le (if t then z else Unset) v ≡ true
-picked z v t e p = ap (λ b. cursor_le (if b then z else Unset) v) e ∙ p
+picked : (z v : CursorKnown) (t : Bool) → t ≡ true → cursor_leq z v ≡ true → cursor_leq (if t then z else Unset) v ≡ true
+picked z v t e p = ap (λ b. cursor_leq (if b then z else Unset) v) e ∙ p
 
 at_number : (brigades : ℕ → BrigadeKnown) (b d : ℕ) → (b == d) ≡ true → is_at_hand (brigades d) ≡ true → is_at_hand (brigades b) ≡ true
 at_number brigades b d e h = ap (λ (n : ℕ). is_at_hand (brigades n)) (eqb-true b d e) ∙ h
 
-number : (b d : ℕ) (s u : Classes) → (b == d && classes_le s u) ≡ true → (b == d) ≡ true
-number b d s u p = (split2 (b == d) (classes_le s u) p).0
+number : (b d : ℕ) (s u : Classes) → (b == d && classes_leq s u) ≡ true → (b == d) ≡ true
+number b d s u p = (split2 (b == d) (classes_leq s u) p).0
 
-kept_least : (brigades : ℕ → BrigadeKnown) (z v : CursorKnown) → Hand brigades v → cursor_le z v ≡ true → cursor_le (kept_cursor brigades z) v ≡ true
+kept_least : (brigades : ℕ → BrigadeKnown) (z v : CursorKnown) → Hand brigades v → cursor_leq z v ≡ true → cursor_leq (kept_cursor brigades z) v ≡ true
 unfolding Hand
 kept_least brigades z Unset h p = refl
 kept_least brigades (Loose s k) (Loose u l) h p = p
@@ -201,18 +201,18 @@ kept_least brigades z (End d) h p = cc
 kept_least brigades z (InOrEnd d u) h p = cc
 
 -- both are at one place
-pick : (x y v : CursorKnown) → cursor_le x v ≡ true → cursor_le y v ≡ true → is_set v ≡ true → cursor_le (if place_of x == place_of y then both_here x y else Unset) v ≡ true
+pick : (x y v : CursorKnown) → cursor_leq x v ≡ true → cursor_leq y v ≡ true → is_set v ≡ true → cursor_leq (if place_of x == place_of y then join_here x y else Unset) v ≡ true
 pick x y v p q set =
-    let same : place_of x ≡ place_of y = le_place x v p set ∙ sym (le_place y v q set) in
-    picked (both_here x y) v (place_of x == place_of y) (eq-eqb (place_of x) (place_of y) same) (here_least x y v p q)
+    let same : place_of x ≡ place_of y = leq_place x v p set ∙ sym (leq_place y v q set) in
+    picked (join_here x y) v (place_of x == place_of y) (eq-eqb (place_of x) (place_of y) same) (here_least x y v p q)
 
-both_least : (x y v : CursorKnown) → cursor_le x v ≡ true → cursor_le y v ≡ true → cursor_le (both_cursors x y) v ≡ true
-unfolding both_cursors
-both_least x y Unset p q = refl
-both_least x y (Loose u l) p q = pick x y (Loose u l) p q refl
-both_least x y (In d u) p q = pick x y (In d u) p q refl
-both_least x y (End d) p q = pick x y (End d) p q refl
-both_least x y (InOrEnd d u) p q = pick x y (InOrEnd d u) p q refl
+cursor_join_least : (x y v : CursorKnown) → cursor_leq x v ≡ true → cursor_leq y v ≡ true → cursor_leq (cursor_join x y) v ≡ true
+unfolding cursor_join
+cursor_join_least x y Unset p q = refl
+cursor_join_least x y (Loose u l) p q = pick x y (Loose u l) p q refl
+cursor_join_least x y (In d u) p q = pick x y (In d u) p q refl
+cursor_join_least x y (End d) p q = pick x y (End d) p q refl
+cursor_join_least x y (InOrEnd d u) p q = pick x y (InOrEnd d u) p q refl
 
 module _ (a b u : State) (of_a : IsFormed a) (of_u : IsFormed u) (au : Below a u) (bu : Below b u) where
   hand : (n : ℕ) → AtHand u n → is_at_hand (joined_brigades a b n) ≡ true
@@ -228,10 +228,10 @@ module _ (a b u : State) (of_a : IsFormed a) (of_u : IsFormed u) (au : Below a u
   hands (End n) f = hand n f
   hands (InOrEnd n s) f = hand n (f.1)
 
-  cursor_below : (c : ℕ) → c < 9 → cursor_le (joined_cursors a b c) (u.cursors c) ≡ true
+  cursor_below : (c : ℕ) → c < 9 → cursor_leq (joined_cursors a b c) (u.cursors c) ≡ true
   cursor_below c h =
-      kept_least (joined_brigades a b) (both_cursors (a.cursors c) (b.cursors c)) (u.cursors c) (hands (u.cursors c) (of_u.cursors c))
-      (both_least (a.cursors c) (b.cursors c) (u.cursors c) (au.cursors c h) (bu.cursors c h))
+      kept_least (joined_brigades a b) (cursor_join (a.cursors c) (b.cursors c)) (u.cursors c) (hands (u.cursors c) (of_u.cursors c))
+      (cursor_join_least (a.cursors c) (b.cursors c) (u.cursors c) (au.cursors c h) (bu.cursors c h))
 
   -- what u has written is known in the join
   fact_known : (c d : ℕ) → c < 9 → d < 9 → u.facts c d ≡ true → known (join a b) c d ≡ true
@@ -241,8 +241,8 @@ module _ (a b u : State) (of_a : IsFormed a) (of_u : IsFormed u) (au : Below a u
       let w2 = split2 (not (c == d)) (is_set (u.cursors c)) (w3.0) in
       let x = joined_cursors a b c in
       let y = joined_cursors a b d in
-      let set_c = le_set x (u.cursors c) (cursor_below c first) (w2.1) in
-      let set_d = le_set y (u.cursors d) (cursor_below d second) (w3.1) in
+      let set_c = leq_set x (u.cursors c) (cursor_below c first) (w2.1) in
+      let set_d = leq_set y (u.cursors d) (cursor_below d second) (w3.1) in
       let kept = and2 (known a c d) (known b c d) (au.facts c d first second h) (bu.facts c d first second h) in
       and2 (not (c == d)) (facts_of (λ i j. known a i j && known b i j) (joined_cursors a b) c d || is_apart x y) (w2.0) (either (is_apart x y) refl set_c set_d kept (w2.0))
     where

@@ -3,7 +3,7 @@ use Rattle.std.proofs.Common.{◌≡◌, ℕ, ◌<◌, Bool, true, false, ◌&&�
 use Rattle.std.proofs.lemmas.Bool.{eqb-true, eq-eqb}
 use Rattle.life_state.specs.States.{State}
 use Rattle.life_state.specs.Facts.{is_apart, known}
-use Rattle.life_state.specs.Order.{implies, all_below, pool_le, brigade_le, cursor_le, same_variables, pools_le, brigades_le, cursors_le, facts_le, leq}
+use Rattle.life_state.specs.Order.{implies, all_below, pool_leq, brigade_leq, cursor_leq, same_variables, pools_leq, brigades_leq, cursors_leq, facts_leq, leq}
 use Rattle.life_state.specs.Laws.{Below, LeqSays, LeqHolds, LeqIsReflexive, LeqIsTransitive}
 use Rattle.life_state.proofs.Below.{all_below_holds}
 use Rattle.life_state.proofs.Tests.{split2, and2, split3, and3, or_either, or_left, or_right, implies_says, implies_by, all_at}
@@ -12,15 +12,15 @@ use Rattle.life_state.proofs.PartsOrder.{pool_same, pool_trans, brigade_same, br
 pub leq_says : LeqSays
 unfolding leq
 leq_says a b h =
-    let h4 = split3 (same_variables a b && implies a.sent b.sent && pools_le a b && brigades_le a b) (cursors_le a b) (facts_le a b) h in
-    let h3 = split3 (same_variables a b && implies a.sent b.sent) (pools_le a b) (brigades_le a b) (h4.0) in
+    let h4 = split3 (same_variables a b && implies a.sent b.sent && pools_leq a b && brigades_leq a b) (cursors_leq a b) (facts_leq a b) h in
+    let h3 = split3 (same_variables a b && implies a.sent b.sent) (pools_leq a b) (brigades_leq a b) (h4.0) in
     let h2 = split2 (same_variables a b) (implies a.sent b.sent) (h3.0) in
     record {
       variables = h2.0;
       sent = implies_says a.sent b.sent (h2.1);
-      pools = λ q below. all_at 8 q (λ q. pool_le (a.pools q) (b.pools q)) (h3.1) below;
-      brigades = λ v below. all_at 9 v (λ v. brigade_le (a.brigades v) (b.brigades v)) (h3.2) below;
-      cursors = λ c below. all_at 9 c (λ c. cursor_le (a.cursors c) (b.cursors c)) (h4.1) below;
+      pools = λ q below. all_at 8 q (λ q. pool_leq (a.pools q) (b.pools q)) (h3.1) below;
+      brigades = λ v below. all_at 9 v (λ v. brigade_leq (a.brigades v) (b.brigades v)) (h3.2) below;
+      cursors = λ c below. all_at 9 c (λ c. cursor_leq (a.cursors c) (b.cursors c)) (h4.1) below;
       facts = λ c d first second. implies_says (b.facts c d) (known a c d)
           (all_at 9 d (λ d. implies (b.facts c d) (known a c d)) (all_at 9 c (λ c. all_below 9 (λ d. implies (b.facts c d) (known a c d))) (h4.2) first) second);
     }
@@ -28,12 +28,12 @@ leq_says a b h =
 pub leq_holds : LeqHolds
 unfolding leq
 leq_holds a b h =
-    and3 (same_variables a b && implies a.sent b.sent && pools_le a b && brigades_le a b) (cursors_le a b) (facts_le a b)
-    (and3 (same_variables a b && implies a.sent b.sent) (pools_le a b) (brigades_le a b)
+    and3 (same_variables a b && implies a.sent b.sent && pools_leq a b && brigades_leq a b) (cursors_leq a b) (facts_leq a b)
+    (and3 (same_variables a b && implies a.sent b.sent) (pools_leq a b) (brigades_leq a b)
     (and2 (same_variables a b) (implies a.sent b.sent) h.variables (implies_by a.sent b.sent h.sent))
-    (all_below_holds 8 (λ q. pool_le (a.pools q) (b.pools q)) h.pools)
-    (all_below_holds 9 (λ v. brigade_le (a.brigades v) (b.brigades v)) h.brigades))
-    (all_below_holds 9 (λ c. cursor_le (a.cursors c) (b.cursors c)) h.cursors)
+    (all_below_holds 8 (λ q. pool_leq (a.pools q) (b.pools q)) h.pools)
+    (all_below_holds 9 (λ v. brigade_leq (a.brigades v) (b.brigades v)) h.brigades))
+    (all_below_holds 9 (λ c. cursor_leq (a.cursors c) (b.cursors c)) h.cursors)
     (all_below_holds 9 (λ c. all_below 9 (λ d. implies (b.facts c d) (known a c d)))
     (λ c first. all_below_holds 9 (λ d. implies (b.facts c d) (known a c d)) (λ d second. implies_by (b.facts c d) (known a c d) (h.facts c d first second))))
 

@@ -7,7 +7,7 @@ use Rattle.run_model.specs.declared.effect.MadeFrom.TheVariants.{TransientBuffer
 use Rattle.run_model.specs.EffectOf.{instr_with}
 use Rattle.run_model.specs.Faults.{OnBucket, wants}
 use Rattle.life_state.specs.States.{only_call, Loose, State}
-use Rattle.life_state.specs.Order.{classes_le, homes_le, cursor_le}
+use Rattle.life_state.specs.Order.{classes_leq, homes_leq, cursor_leq}
 use Rattle.life_state.specs.Rules.{only_bytes, classes_of, classes_from, homes_at, homes_from, all_others, after_make}
 use Rattle.life_state.specs.Form.{FormedCursor}
 use Rattle.life_state.specs.FormLaws.{IsFormedIn}
@@ -32,14 +32,14 @@ module _ (p : Program) (c : ℕ) where
 
   -- and below those of a greater state
   source_within : (s t : State) → Within s t → (from : MadeFrom) → Met t (wants p (instr_with (effect.Make c from)))
-      → cursor_le (Loose (classes_from from s) (homes_from from s)) (Loose (classes_from from t) (homes_from from t)) ≡ true
+      → cursor_leq (Loose (classes_from from s) (homes_from from s)) (Loose (classes_from from t) (homes_from from t)) ≡ true
   unfolding Met
   source_within s t w TransientBuffer h = cursor_same (Loose only_bytes only_call)
   source_within s t w (CopyAt d) h =
       let a = s.cursors d in
       let b = t.cursors d in
       let set = there OnBucket b (h.0) in
-      and2 (classes_le (classes_of a) (classes_of b)) (homes_le (homes_at s a) (homes_at t b)) (classes_within a b set (w.cursors d)) (homes_at_within s t a b w.brigades set (w.cursors d))
+      and2 (classes_leq (classes_of a) (classes_of b)) (homes_leq (homes_at s a) (homes_at t b)) (classes_within a b set (w.cursors d)) (homes_at_within s t a b w.brigades set (w.cursors d))
   source_within s t w from h = cursor_same (Loose (classes_from from s) (homes_from from s))
 
 pub made_formed : (p : Program) (call : Bool) (s : State) (c : ℕ) (from : MadeFrom) → IsFormedIn p call s → c < 9 → Met s (wants p (instr_with (effect.Make c from)))

@@ -5,19 +5,19 @@ use Rattle.run_model.specs.Indexed.{upd}
 use Rattle.life_state.specs.declared.parts.PoolState.{PoolState}
 use Rattle.life_state.specs.States.{only_null, BrigadeKnown, never_made, CursorKnown, Unset, State, set_pool, set_brigade}
 use Rattle.life_state.specs.Facts.{is_set, is_apart, known, facts_of, moved, known_but, set_cursor, forgotten, move_bucket}
-use Rattle.life_state.specs.Order.{pool_le, brigade_le, cursor_le, same_variables, leq}
+use Rattle.life_state.specs.Order.{pool_leq, brigade_leq, cursor_leq, same_variables, leq}
 use Rattle.life_state.specs.Rules.{told}
 use Rattle.life_state.specs.Form.{IsFormed}
 use Rattle.life_state.proofs.Tests.{split2, and2, split3, and3, or_either, or_right}
-use Rattle.life_state.proofs.PartsOrder.{pool_same, brigade_same, apart_below, le_set}
+use Rattle.life_state.proofs.PartsOrder.{pool_same, brigade_same, apart_below, leq_set}
 use Rattle.life_state.proofs.OrderLaws.{leq_says, leq_holds}
 
 pub record Within (a b : State) : Type 0 where
   pub variables : same_variables a b ≡ true
   pub sent : a.sent ≡ true → b.sent ≡ true
-  pub pools : (q : ℕ) → pool_le (a.pools q) (b.pools q) ≡ true
-  pub brigades : (v : ℕ) → brigade_le (a.brigades v) (b.brigades v) ≡ true
-  pub cursors : (c : ℕ) → cursor_le (a.cursors c) (b.cursors c) ≡ true
+  pub pools : (q : ℕ) → pool_leq (a.pools q) (b.pools q) ≡ true
+  pub brigades : (v : ℕ) → brigade_leq (a.brigades v) (b.brigades v) ≡ true
+  pub cursors : (c : ℕ) → cursor_leq (a.cursors c) (b.cursors c) ≡ true
   pub facts : (c d : ℕ) → b.facts c d ≡ true → known a c d ≡ true
 
 clash : false ≡ true → ⊥
@@ -34,14 +34,14 @@ within a b f g h =
       variables = less.variables;
       sent = less.sent;
       pools = λ q. ⊎_elim (λ (low : q < 8). less.pools q low)
-          (λ (high : 8 ≤ q). subst (λ v. pool_le v (b.pools q) ≡ true) (sym (f.no_pools q (omega (arith, f.pool_count))))
-          (subst (λ v. pool_le only_null v ≡ true) (sym (g.no_pools q (omega (arith, g.pool_count)))) (pool_same only_null)))
+          (λ (high : 8 ≤ q). subst (λ v. pool_leq v (b.pools q) ≡ true) (sym (f.no_pools q (omega (arith, f.pool_count))))
+          (subst (λ v. pool_leq only_null v ≡ true) (sym (g.no_pools q (omega (arith, g.pool_count)))) (pool_same only_null)))
           (cases_lt q 8);
       brigades = λ v. ⊎_elim (λ (low : v < 9). less.brigades v low)
-          (λ (high : 9 ≤ v). subst (λ x. brigade_le x (b.brigades v) ≡ true) (sym (f.no_brigades v (omega (arith, f.brigade_count)) (omega arith)))
-          (subst (λ x. brigade_le never_made x ≡ true) (sym (g.no_brigades v (omega (arith, g.brigade_count)) (omega arith))) (brigade_same never_made)))
+          (λ (high : 9 ≤ v). subst (λ x. brigade_leq x (b.brigades v) ≡ true) (sym (f.no_brigades v (omega (arith, f.brigade_count)) (omega arith)))
+          (subst (λ x. brigade_leq never_made x ≡ true) (sym (g.no_brigades v (omega (arith, g.brigade_count)) (omega arith))) (brigade_same never_made)))
           (cases_lt v 9);
-      cursors = λ c. ⊎_elim (λ (low : c < 9). less.cursors c low) (λ (high : 9 ≤ c). ap (cursor_le (a.cursors c)) (g.no_cursors c high)) (cases_lt c 9);
+      cursors = λ c. ⊎_elim (λ (low : c < 9). less.cursors c low) (λ (high : 9 ≤ c). ap (cursor_leq (a.cursors c)) (g.no_cursors c high)) (cases_lt c 9);
       facts = λ c d e. let w3 = split3 (not (c == d) && is_set (b.cursors c)) (is_set (b.cursors d)) (not (is_apart (b.cursors c) (b.cursors d))) (g.facts c d e) in
           less.facts c d (fact_of_nine b c g ((split2 (not (c == d)) (is_set (b.cursors c)) (w3.0)).1)) (fact_of_nine b d g (w3.1)) e;
     }
@@ -70,7 +70,7 @@ known_within a b w c d h =
 -- Cursors.
 
 abbrev pub CursorsWithin : (ℕ → CursorKnown) → (ℕ → CursorKnown) → Type 0
-CursorsWithin f g = (k : ℕ) → cursor_le (f k) (g k) ≡ true
+CursorsWithin f g = (k : ℕ) → cursor_leq (f k) (g k) ≡ true
 
 -- what is written over cursors, is written or implied over smaller ones
 kept_fact : (keep more : ℕ → ℕ → Bool) (f g : ℕ → CursorKnown) → CursorsWithin f g → ((c d : ℕ) → more c d ≡ true → keep c d ≡ true) → (c d : ℕ) → facts_of more g c d ≡ true
@@ -80,8 +80,8 @@ kept_fact keep more f g less kept c d h =
     let h3 = split3 (not (c == d) && more c d && is_set (g c)) (is_set (g d)) (not (is_apart (g c) (g d))) h in
     let k3 = split3 (not (c == d)) (more c d) (is_set (g c)) (h3.0) in
     and2 (not (c == d)) (not (c == d) && keep c d && is_set (f c) && is_set (f d) && not (is_apart (f c) (f d)) || is_apart (f c) (f d)) (k3.0)
-    (either (and3 (not (c == d) && keep c d) (is_set (f c)) (is_set (f d)) (and2 (not (c == d)) (keep c d) (k3.0) (kept c d (k3.1))) (le_set (f c) (g c) (less c) (k3.2))
-    (le_set (f d) (g d) (less d) (h3.1))) (is_apart (f c) (f d)))
+    (either (and3 (not (c == d) && keep c d) (is_set (f c)) (is_set (f d)) (and2 (not (c == d)) (keep c d) (k3.0) (kept c d (k3.1))) (leq_set (f c) (g c) (less c) (k3.2))
+    (leq_set (f d) (g d) (less d) (h3.1))) (is_apart (f c) (f d)))
   where
     either : {x : Bool} → x ≡ true → (y : Bool) → (x && not y || y) ≡ true
     either {x} h true = or_right (x && false) true refl
@@ -125,12 +125,12 @@ upd_within R f g i v u here all k = pick (k == i)
     pick false = all k
 
 abbrev IsLess : CursorKnown → CursorKnown → Type 0
-IsLess x y = cursor_le x y ≡ true
+IsLess x y = cursor_leq x y ≡ true
 
-pub cursors_within : (a b : State) (c : ℕ) (v u : CursorKnown) → Within a b → cursor_le v u ≡ true → CursorsWithin (upd a.cursors c v) (upd b.cursors c u)
+pub cursors_within : (a b : State) (c : ℕ) (v u : CursorKnown) → Within a b → cursor_leq v u ≡ true → CursorsWithin (upd a.cursors c v) (upd b.cursors c u)
 cursors_within a b c v u w h = upd_within IsLess a.cursors b.cursors c v u h w.cursors
 
-pub set_within : (a b : State) (c : ℕ) (v u : CursorKnown) (new more : ℕ → Bool) → Within a b → cursor_le v u ≡ true → ((k : ℕ) → more k ≡ true → new k ≡ true)
+pub set_within : (a b : State) (c : ℕ) (v u : CursorKnown) (new more : ℕ → Bool) → Within a b → cursor_leq v u ≡ true → ((k : ℕ) → more k ≡ true → new k ≡ true)
     → Within (set_cursor c v new a) (set_cursor c u more b)
 unfolding set_cursor known
 set_within a b c v u new more w h others = record {
@@ -147,38 +147,38 @@ set_within a b c v u new more w h others = record {
     pick i j false true k = others i k
     pick i j false false k = known_within a b w i j k
 
-pub told_within : (a b : State) (c : ℕ) (v u : CursorKnown) → Within a b → cursor_le v u ≡ true → Within (told c v a) (told c u b)
+pub told_within : (a b : State) (c : ℕ) (v u : CursorKnown) → Within a b → cursor_leq v u ≡ true → Within (told c v a) (told c u b)
 told_within a b c v u w h = moved_within a b (upd a.cursors c v) (upd b.cursors c u) w (cursors_within a b c v u w h)
 
-pub told_over : (a b : State) (c : ℕ) (u : CursorKnown) → Within a b → cursor_le (a.cursors c) u ≡ true → Within a (told c u b)
+pub told_over : (a b : State) (c : ℕ) (u : CursorKnown) → Within a b → cursor_leq (a.cursors c) u ≡ true → Within a (told c u b)
 unfolding upd
 told_over a b c u w h = moved_over a b (upd b.cursors c u) w (λ k. pick k (k == c) refl)
   where
-    pick : (k : ℕ) (e : Bool) → (k == c) ≡ e → cursor_le (a.cursors k) (if e then u else b.cursors k) ≡ true
-    pick k true e = subst (λ (n : ℕ). cursor_le (a.cursors n) u ≡ true) (sym (eqb-true k c e)) h
+    pick : (k : ℕ) (e : Bool) → (k == c) ≡ e → cursor_leq (a.cursors k) (if e then u else b.cursors k) ≡ true
+    pick k true e = subst (λ (n : ℕ). cursor_leq (a.cursors n) u ≡ true) (sym (eqb-true k c e)) h
     pick k false e = w.cursors k
 
-forgotten_within : (a b : State) (c d : ℕ) → Within a b → cursor_le (forgotten a c d) (forgotten b c d) ≡ true
+forgotten_within : (a b : State) (c d : ℕ) → Within a b → cursor_leq (forgotten a c d) (forgotten b c d) ≡ true
 forgotten_within a b c d w = pick (d == c) (known b c d) refl
   where
-    pick : (e t : Bool) → known b c d ≡ t → cursor_le (if e then a.cursors d else (if known a c d then a.cursors d else Unset)) (if e then b.cursors d else (if t then b.cursors d else Unset)) ≡ true
+    pick : (e t : Bool) → known b c d ≡ t → cursor_leq (if e then a.cursors d else (if known a c d then a.cursors d else Unset)) (if e then b.cursors d else (if t then b.cursors d else Unset)) ≡ true
     pick true t h = w.cursors d
-    pick false true h = ap (λ x. cursor_le (if x then a.cursors d else Unset) (b.cursors d)) (known_within a b w c d h) ∙ w.cursors d
+    pick false true h = ap (λ x. cursor_leq (if x then a.cursors d else Unset) (b.cursors d)) (known_within a b w c d h) ∙ w.cursors d
     pick false false h = refl
 
-pub move_within : (a b : State) (c : ℕ) (v u : CursorKnown) → Within a b → cursor_le v u ≡ true → Within (move_bucket c v a) (move_bucket c u b)
+pub move_within : (a b : State) (c : ℕ) (v u : CursorKnown) → Within a b → cursor_leq v u ≡ true → Within (move_bucket c v a) (move_bucket c u b)
 move_within a b c v u w h =
     moved_within a b (upd (forgotten a c) c v) (upd (forgotten b c) c u) w (upd_within IsLess (forgotten a c) (forgotten b c) c v u h (λ d. forgotten_within a b c d w))
 
 -- Variables.
 
-pub pool_within : (a b : State) (q : ℕ) (v u : PoolState) → Within a b → pool_le v u ≡ true → Within (set_pool q v a) (set_pool q u b)
+pub pool_within : (a b : State) (q : ℕ) (v u : PoolState) → Within a b → pool_leq v u ≡ true → Within (set_pool q v a) (set_pool q u b)
 unfolding known
-pool_within a b q v u w h = search (rules, upd_within (λ x y. pool_le x y ≡ true) a.pools b.pools q v u h w.pools)
+pool_within a b q v u w h = search (rules, upd_within (λ x y. pool_leq x y ≡ true) a.pools b.pools q v u h w.pools)
 
-pub brigade_within : (a b : State) (n : ℕ) (v u : BrigadeKnown) → Within a b → brigade_le v u ≡ true → Within (set_brigade n v a) (set_brigade n u b)
+pub brigade_within : (a b : State) (n : ℕ) (v u : BrigadeKnown) → Within a b → brigade_leq v u ≡ true → Within (set_brigade n v a) (set_brigade n u b)
 unfolding known
-brigade_within a b n v u w h = search (rules, upd_within (λ x y. brigade_le x y ≡ true) a.brigades b.brigades n v u h w.brigades)
+brigade_within a b n v u w h = search (rules, upd_within (λ x y. brigade_leq x y ≡ true) a.brigades b.brigades n v u h w.brigades)
 
 pub sent_within : (a b : State) (x y : Bool) → Within a b → (x ≡ true → y ≡ true) → Within (record a { sent = x }) (record b { sent = y })
 unfolding known

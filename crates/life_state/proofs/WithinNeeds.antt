@@ -14,7 +14,7 @@ use Rattle.run_model.specs.Faults.{Need, Want, WPool, WBrigade, WUsable, WNew, W
 use Rattle.life_state.specs.declared.parts.Classes.{Classes}
 use Rattle.life_state.specs.States.{is_live_alone, BrigadeKnown, is_live_brigade, is_usable_alone, CursorKnown, Unset, Loose, In, End, InOrEnd, State}
 use Rattle.life_state.specs.Facts.{is_set}
-use Rattle.life_state.specs.Order.{implies, content_le, classes_le, brigade_le, cursor_le}
+use Rattle.life_state.specs.Order.{implies, content_leq, classes_leq, brigade_leq, cursor_leq}
 use Rattle.life_state.specs.Rules.{cursor_need, pool_need, brigade_need, usable_need, homes_need, homes_at, send_limit, send_need, keeps_call, need, first_need}
 use Rattle.life_state.specs.Form.{FormedBrigade, IsFormed}
 use Rattle.life_state.proofs.FormNeeds.{or_none}
@@ -80,10 +80,10 @@ some_not false true k f h = absurd (clash (f refl))
 place_need : (g : Need) (b c : ℕ) (f : Need → ℕ → Option FaultKind) → (b == c) ≡ true → f g c ≡ None → f g b ≡ None
 place_need g b c f e h = ap (f g) (eqb-true b c e) ∙ h
 
-number : (b c : ℕ) (s t : Classes) → (b == c && classes_le s t) ≡ true → (b == c) ≡ true
-number b c s t p = (split2 (b == c) (classes_le s t) p).0
+number : (b c : ℕ) (s t : Classes) → (b == c && classes_leq s t) ≡ true → (b == c) ≡ true
+number b c s t p = (split2 (b == c) (classes_leq s t) p).0
 
-pub cursor_need_within : (g : Need) (x y : CursorKnown) → cursor_le x y ≡ true → cursor_need g y ≡ None → cursor_need g x ≡ None
+pub cursor_need_within : (g : Need) (x y : CursorKnown) → cursor_leq x y ≡ true → cursor_need g y ≡ None → cursor_need g x ≡ None
 cursor_need_within g x Unset p h = cc
 cursor_need_within g (Loose s h) (Loose t k) p n = n
 cursor_need_within g (In b s) (In c t) p n = place_need g b c within_fault (number b c s t p) n
@@ -104,7 +104,7 @@ there g (In c t) n = refl
 there g (End c) n = refl
 there g (InOrEnd c t) n = refl
 
-limits : (x y : Bool) → (x ≡ true → y ≡ true) → content_le (send_limit y) (send_limit x) ≡ true
+limits : (x y : Bool) → (x ≡ true → y ≡ true) → content_leq (send_limit y) (send_limit x) ≡ true
 limits true true f = refl
 limits true false f = absurd (clash (f refl))
   where
@@ -122,12 +122,12 @@ first_alone : (u p : Bool) → (u || p) ≡ true → p ≡ false → (u && not p
 first_alone true p c none = ap not none
 first_alone false p c none = cc
 
-live_within : (v u : BrigadeKnown) → brigade_le v u ≡ true → FormedBrigade v → is_live_brigade u ≡ true → is_live_brigade v ≡ true
+live_within : (v u : BrigadeKnown) → brigade_leq v u ≡ true → FormedBrigade v → is_live_brigade u ≡ true → is_live_brigade v ≡ true
 live_within v u p f h =
     let of = parts v u p in
     alone_within (as_pool v) (as_pool u) (and3 (implies v.null u.null) (implies v.gone u.gone) (implies v.live u.live) of.null of.gone of.live) f.some h
 
-usable_within : (v u : BrigadeKnown) → brigade_le v u ≡ true → FormedBrigade v → is_live_brigade v ≡ true → is_usable_alone u ≡ true → is_usable_alone v ≡ true
+usable_within : (v u : BrigadeKnown) → brigade_leq v u ≡ true → FormedBrigade v → is_live_brigade v ≡ true → is_usable_alone u ≡ true → is_usable_alone v ≡ true
 usable_within v u p f live h =
     let of = parts v u p in
     first_alone v.usable v.passed (sym f.marks ∙ (split3 v.live (not v.null) (not v.gone) live).0)
@@ -169,9 +169,9 @@ module _ (s t : State) (f : IsFormed s) (w : Within s t) where
 
   send_met : (b : ℕ) → send_need t.sent (t.brigades b) ≡ None → send_need s.sent (s.brigades b) ≡ None
   send_met b h =
-      none_then (content_le (s.brigades b).content (send_limit s.sent)) F8
+      none_then (content_leq (s.brigades b).content (send_limit s.sent)) F8
       (content_trans (s.brigades b).content (t.brigades b).content (send_limit s.sent) (of b).content
-      (content_trans (t.brigades b).content (send_limit t.sent) (send_limit s.sent) (then_none (content_le (t.brigades b).content (send_limit t.sent)) F8 h) (limits s.sent t.sent w.sent)))
+      (content_trans (t.brigades b).content (send_limit t.sent) (send_limit s.sent) (then_none (content_leq (t.brigades b).content (send_limit t.sent)) F8 h) (limits s.sent t.sent w.sent)))
 
   keeps : (b : ℕ) → keeps_call (s.brigades b) ≡ true → keeps_call (t.brigades b) ≡ true
   keeps b h =

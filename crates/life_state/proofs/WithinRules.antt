@@ -24,22 +24,22 @@ use Rattle.run_model.specs.Faults.{OnBucket, OnLoose, InBrigade, Anywhere, wants
 use Rattle.life_state.specs.declared.parts.Contents.{Contents}
 use Rattle.life_state.specs.declared.parts.Contents.TheVariants.{Empty, NoLateData}
 use Rattle.life_state.specs.declared.parts.Classes.{Classes}
-use Rattle.life_state.specs.States.{Homes, no_homes, only_call, home_in, both_homes, dead_where, only_null, only_live, ended_pool, never_made, holds, passed_on, ended_brigade, with_homes, CursorKnown}
+use Rattle.life_state.specs.States.{Homes, no_homes, only_call, home_in, homes_join, dead_where, only_null, only_live, ended_pool, never_made, holds, passed_on, ended_brigade, with_homes, CursorKnown}
 use Rattle.life_state.specs.States.{Unset, Loose, In, End, InOrEnd, State, set_pool, set_brigade}
 use Rattle.life_state.specs.Facts.{is_set, known, set_cursor}
-use Rattle.life_state.specs.Order.{implies, classes_le, homes_le, pool_le, brigade_le, cursor_le}
+use Rattle.life_state.specs.Order.{implies, classes_leq, homes_leq, pool_leq, brigade_leq, cursor_leq}
 use Rattle.life_state.specs.PoolOrder.{is_under}
-use Rattle.life_state.specs.Rules.{homes_at, cursor_need, first_need, joined_content, before_content, emptied, left, carried, split_off, lies_under, is_subpool, cleared_pool, cleared_brigade}
-use Rattle.life_state.specs.Rules.{cleared_cursors, with_cleared, cleared_under, cleared, Edges, some_if, no_other, after_pclear, after_pdestroy, after_bclean, after_join, after_bsplit}
+use Rattle.life_state.specs.Rules.{homes_at, cursor_need, first_need, concat_content, before_content, emptied, left, carried, split_off, lies_under, is_subpool, cleared_pool, cleared_brigade}
+use Rattle.life_state.specs.Rules.{cleared_cursors, with_cleared, cleared_under, cleared, Edges, some_if, no_other, after_pclear, after_pdestroy, after_bclean, after_concat, after_bsplit}
 use Rattle.life_state.specs.Rules.{split_part, bucket_or_end, after_first, after_next, is_empty, edges_jempty, told, edges_jend, of_kind, not_of_kind, some_class, with_classes, classes_of}
 use Rattle.life_state.specs.Rules.{told_classes, edges_jkind, after_unlink, put_in, if_brigade, after_before, side_content, after_aside, after_read}
 use Rattle.life_state.specs.Rules.{may_end, after_pass, pool_not_null, brigade_not_null, edges_jnull, after, on_condition, led, edges, need_or, at_main, at_return, at_end_of_request}
-use Rattle.life_state.specs.Monotone.{edge_le, LeadsBelow, RulesAreMonotone, EntriesAreMonotone}
+use Rattle.life_state.specs.Monotone.{edge_leq, LeadsBelow, RulesAreMonotone, EntriesAreMonotone}
 use Rattle.life_state.proofs.Tests.{split2, and2, split3, or_either, or_left, or_right, implies_says}
 use Rattle.life_state.proofs.PartsOrder.{pool_same, brigade_same, homes_same, cursor_same}
 use Rattle.life_state.proofs.JoinLeast.{BrigadeParts, parts}
 use Rattle.life_state.proofs.Within.{Within, within, below, known_within, moved_within, set_within, told_within, told_over, move_within, pool_within, brigade_within, sent_within}
-use Rattle.life_state.proofs.WithinParts.{content_joined, RisesWith, tail_rises, head_rises, before_rises, may_end_rises, not_empty_rises, of_kind_rises, not_of_kind_rises, some_rises, homes_joined}
+use Rattle.life_state.proofs.WithinParts.{content_concat, RisesWith, tail_rises, head_rises, before_rises, may_end_rises, not_empty_rises, of_kind_rises, not_of_kind_rises, some_rises, homes_joined}
 use Rattle.life_state.proofs.WithinParts.{homes_ended, pool_ended, not_null_within, holds_within, ended_within, homes_changed, brigade_not_null_within, emptied_within, left_within, carried_within}
 use Rattle.life_state.proofs.WithinParts.{cleared_within, first_within, split_within, classes_within, with_classes_within, homes_at_within}
 use Rattle.life_state.proofs.WithinNeeds.{Met, met, met_all, needs_with, Homed, there, needs_within}
@@ -67,23 +67,23 @@ if_within false g a b f w = tt
 if_within true true a b f w = w
 if_within true false a b f w = absurd (clash (f refl))
 
-number : (b c : ℕ) (s t : Classes) → (b == c && classes_le s t) ≡ true → (b == c) ≡ true
-number b c s t p = (split2 (b == c) (classes_le s t) p).0
+number : (b c : ℕ) (s t : Classes) → (b == c && classes_leq s t) ≡ true → (b == c) ≡ true
+number b c s t p = (split2 (b == c) (classes_leq s t) p).0
 
 -- Pools that go.
 
-pool_cleared : (under : PoolRef → Bool) (top : PoolRef) (a b : State) (q : ℕ) → pool_le (a.pools q) (b.pools q) ≡ true → pool_le (cleared_pool under top a q) (cleared_pool under top b q) ≡ true
+pool_cleared : (under : PoolRef → Bool) (top : PoolRef) (a b : State) (q : ℕ) → pool_leq (a.pools q) (b.pools q) ≡ true → pool_leq (cleared_pool under top a q) (cleared_pool under top b q) ≡ true
 pool_cleared under top a b q h = pick (is_subpool under top q)
   where
-    pick : (e : Bool) → pool_le (if e then ended_pool (a.pools q) else a.pools q) (if e then ended_pool (b.pools q) else b.pools q) ≡ true
+    pick : (e : Bool) → pool_leq (if e then ended_pool (a.pools q) else a.pools q) (if e then ended_pool (b.pools q) else b.pools q) ≡ true
     pick true = pool_ended (a.pools q) (b.pools q) h
     pick false = h
 
-brigade_cleared : (p : Program) (under : PoolRef → Bool) (a b : State) (n : ℕ) → brigade_le (a.brigades n) (b.brigades n) ≡ true
-    → brigade_le (cleared_brigade p under a n) (cleared_brigade p under b n) ≡ true
+brigade_cleared : (p : Program) (under : PoolRef → Bool) (a b : State) (n : ℕ) → brigade_leq (a.brigades n) (b.brigades n) ≡ true
+    → brigade_leq (cleared_brigade p under a n) (cleared_brigade p under b n) ≡ true
 brigade_cleared p under a b n h = pick (lies_under p under n)
   where
-    pick : (e : Bool) → brigade_le (if e then ended_brigade (a.brigades n) else with_homes (dead_where under) (a.brigades n))
+    pick : (e : Bool) → brigade_leq (if e then ended_brigade (a.brigades n) else with_homes (dead_where under) (a.brigades n))
         (if e then ended_brigade (b.brigades n) else with_homes (dead_where under) (b.brigades n)) ≡ true
     pick true = ended_within (a.brigades n) (b.brigades n) h
     pick false = homes_changed (dead_where under) (a.brigades n) (b.brigades n) (homes_ended under) h
@@ -121,16 +121,16 @@ module _ (p : Program) (s t : State) (w : Within s t) where
       moved_within (set_brigade b e s) (set_brigade b e t) (λ k. emptied b (s.cursors k)) (λ k. emptied b (t.cursors k)) (emptied_at b)
       (λ k. emptied_within b (s.cursors k) (t.cursors k) (w.cursors k))
 
-  joined : (a b : ℕ) (h k : Homes) → homes_le h k ≡ true → Within (after_join a b h s) (after_join a b k t)
+  joined : (a b : ℕ) (h k : Homes) → homes_leq h k ≡ true → Within (after_concat a b h s) (after_concat a b k t)
   joined a b h k le =
       let e = holds Empty no_homes in
-      let v = holds (joined_content (s.brigades a).content (s.brigades b).content) h in
-      let u = holds (joined_content (t.brigades a).content (t.brigades b).content) k in
+      let v = holds (concat_content (s.brigades a).content (s.brigades b).content) h in
+      let u = holds (concat_content (t.brigades a).content (t.brigades b).content) k in
       moved_within (set_brigade b e (set_brigade a v s)) (set_brigade b e (set_brigade a u t)) (λ i. carried a b (s.cursors i)) (λ i. carried a b (t.cursors i))
       (brigade_within (set_brigade a v s) (set_brigade a u t) b e e
       (brigade_within s t a v u w
-      (holds_within (joined_content (s.brigades a).content (s.brigades b).content) (joined_content (t.brigades a).content (t.brigades b).content) h k
-      (content_joined (s.brigades a).content (s.brigades b).content (t.brigades a).content (t.brigades b).content (of a).content (of b).content) le))
+      (holds_within (concat_content (s.brigades a).content (s.brigades b).content) (concat_content (t.brigades a).content (t.brigades b).content) h k
+      (content_concat (s.brigades a).content (s.brigades b).content (t.brigades a).content (t.brigades b).content (of a).content (of b).content) le))
       (brigade_same e))
       (λ i. carried_within a b (s.cursors i) (t.cursors i) (w.cursors i))
 
@@ -143,7 +143,7 @@ module _ (p : Program) (s t : State) (w : Within s t) where
       (λ k. pick k (k == c))
     where
       pick : (k : ℕ) (e : Bool)
-          → cursor_le (if e then carried a b (s.cursors k) else emptied a (emptied b (s.cursors k))) (if e then carried a b (t.cursors k) else emptied a (emptied b (t.cursors k))) ≡ true
+          → cursor_leq (if e then carried a b (s.cursors k) else emptied a (emptied b (s.cursors k))) (if e then carried a b (t.cursors k) else emptied a (emptied b (t.cursors k))) ≡ true
       pick k true = carried_within a b (s.cursors k) (t.cursors k) (w.cursors k)
       pick k false = emptied_within a (emptied b (s.cursors k)) (emptied b (t.cursors k)) (emptied_within b (s.cursors k) (t.cursors k) (w.cursors k))
 
@@ -172,7 +172,7 @@ module _ (p : Program) (s t : State) (w : Within s t) where
   ends : (c b : ℕ) → Within (set_cursor c (End b) no_other s) (set_cursor c (End b) no_other t)
   ends c b = set_within s t c (End b) (End b) no_other no_other w (cursor_same (End b)) (λ k h. h)
 
-  nexts : (d c : ℕ) (x y : CursorKnown) → cursor_le x y ≡ true → cursor_need InBrigade y ≡ None → Within (after_next d c x s) (after_next d c y t)
+  nexts : (d c : ℕ) (x y : CursorKnown) → cursor_leq x y ≡ true → cursor_need InBrigade y ≡ None → Within (after_next d c x s) (after_next d c y t)
   nexts d c (In m u) (In n v) p h = subst (λ (i : ℕ). Within (after_next d c (In i u) s) (after_next d c (In n v) t)) (sym (eqb-true m n (number m n u v p)))
       (set_within s t d (bucket_or_end n (s.brigades n).content) (bucket_or_end n (t.brigades n).content) (λ k. k == c) (λ k. k == c) w
       (first_within n (s.brigades n).content (t.brigades n).content (of n).content) (λ k e. e))
@@ -182,28 +182,28 @@ module _ (p : Program) (s t : State) (w : Within s t) where
   nexts d c x (End n) p h = cc
   nexts d c x (InOrEnd n v) p h = cc
 
-  at_end : (c : ℕ) (x y : CursorKnown) → s.cursors c ≡ x → cursor_le x y ≡ true → cursor_need Anywhere y ≡ None → EdgesWithin (edges_jend c x s) (edges_jend c y t)
+  at_end : (c : ℕ) (x y : CursorKnown) → s.cursors c ≡ x → cursor_leq x y ≡ true → cursor_need Anywhere y ≡ None → EdgesWithin (edges_jend c x s) (edges_jend c y t)
   at_end c x Unset e p h = cc
   at_end c (Loose u k) (Loose v l) e p h = (w, tt)
   at_end c (In m u) (In n v) e p h = (w, tt)
-  at_end c (In m u) (InOrEnd n v) e p h = (told_over s t c (In n v) w (ap (λ x. cursor_le x (In n v)) e ∙ p), tt)
+  at_end c (In m u) (InOrEnd n v) e p h = (told_over s t c (In n v) w (ap (λ x. cursor_leq x (In n v)) e ∙ p), tt)
   at_end c (InOrEnd m u) (InOrEnd n v) e p h = (told_within s t c (In m u) (In n v) w p, told_within s t c (End m) (End n) w (number m n u v p))
   at_end c (End m) (End n) e p h = (tt, w)
-  at_end c (End m) (InOrEnd n v) e p h = (tt, told_over s t c (End n) w (ap (λ x. cursor_le x (End n)) e ∙ p))
+  at_end c (End m) (InOrEnd n v) e p h = (tt, told_over s t c (End n) w (ap (λ x. cursor_leq x (End n)) e ∙ p))
   at_end c x (Loose v l) e p h = cc
   at_end c x (In n v) e p h = cc
   at_end c x (End n) e p h = cc
   at_end c x (InOrEnd n v) e p h = cc
 
-  tell : (c : ℕ) (u v : Classes) → classes_le u v ≡ true → EdgeWithin (told_classes c u s) (told_classes c v t)
+  tell : (c : ℕ) (u v : Classes) → classes_leq u v ≡ true → EdgeWithin (told_classes c u s) (told_classes c v t)
   tell c u v le =
       if_within (some_class u) (some_class v) (told c (with_classes u (s.cursors c)) s) (told c (with_classes v (t.cursors c)) t) (some_rises u v le)
       (told_within s t c (with_classes u (s.cursors c)) (with_classes v (t.cursors c)) w (with_classes_within (s.cursors c) (t.cursors c) u v (w.cursors c) le))
 
-  classes_there : (c : ℕ) → is_set (t.cursors c) ≡ true → classes_le (classes_of (s.cursors c)) (classes_of (t.cursors c)) ≡ true
+  classes_there : (c : ℕ) → is_set (t.cursors c) ≡ true → classes_leq (classes_of (s.cursors c)) (classes_of (t.cursors c)) ≡ true
   classes_there c set = classes_within (s.cursors c) (t.cursors c) set (w.cursors c)
 
-  homes_there : (c : ℕ) → is_set (t.cursors c) ≡ true → homes_le (homes_at s (s.cursors c)) (homes_at t (t.cursors c)) ≡ true
+  homes_there : (c : ℕ) → is_set (t.cursors c) ≡ true → homes_leq (homes_at s (s.cursors c)) (homes_at t (t.cursors c)) ≡ true
   homes_there c set = homes_at_within s t (s.cursors c) (t.cursors c) w.brigades set (w.cursors c)
 
   kinds : (c : ℕ) (k : KindTest) → is_set (t.cursors c) ≡ true → EdgesWithin (edges_jkind c k s) (edges_jkind c k t)
@@ -219,7 +219,7 @@ module _ (p : Program) (s t : State) (w : Within s t) where
       let v = classes_of (t.cursors c) in
       let h = homes_at s (s.cursors c) in
       let k = homes_at t (t.cursors c) in
-      move_within s t c (Loose u h) (Loose v k) w (and2 (classes_le u v) (homes_le h k) (classes_there c set) (homes_there c set))
+      move_within s t c (Loose u h) (Loose v k) w (and2 (classes_leq u v) (homes_leq h k) (classes_there c set) (homes_there c set))
 
   put_both : (content : Contents → Classes → Contents) → RisesWith content → (b c : ℕ) → is_set (t.cursors c) ≡ true → Within (put_in content b c s) (put_in content b c t)
   put_both content rise b c set =
@@ -227,14 +227,14 @@ module _ (p : Program) (s t : State) (w : Within s t) where
       let v = classes_of (t.cursors c) in
       let h = homes_at s (s.cursors c) in
       let k = homes_at t (t.cursors c) in
-      let x = holds (content (s.brigades b).content u) (both_homes (s.brigades b).homes h) in
-      let y = holds (content (t.brigades b).content v) (both_homes (t.brigades b).homes k) in
+      let x = holds (content (s.brigades b).content u) (homes_join (s.brigades b).homes h) in
+      let y = holds (content (t.brigades b).content v) (homes_join (t.brigades b).homes k) in
       let le = classes_there c set in
       move_within (set_brigade b x s) (set_brigade b y t) c (In b u) (In b v)
       (brigade_within s t b x y w
-      (holds_within (content (s.brigades b).content u) (content (t.brigades b).content v) (both_homes (s.brigades b).homes h) (both_homes (t.brigades b).homes k)
+      (holds_within (content (s.brigades b).content u) (content (t.brigades b).content v) (homes_join (s.brigades b).homes h) (homes_join (t.brigades b).homes k)
       (rise (s.brigades b).content (t.brigades b).content u v (of b).content le) (homes_joined (s.brigades b).homes h (t.brigades b).homes k (of b).homes (homes_there c set))))
-      (and2 (b == b) (classes_le u v) (cursor_same (End b)) le)
+      (and2 (b == b) (classes_leq u v) (cursor_same (End b)) le)
 
   -- in one of the nine brigades
   if_both : (b : ℕ) (a c : State) → Within a c → Within (if_brigade b a s) (if_brigade b c t)
@@ -244,7 +244,7 @@ module _ (p : Program) (s t : State) (w : Within s t) where
       pick true = h
       pick false = w
 
-  befores : (c : ℕ) (x y : CursorKnown) → is_set (t.cursors c) ≡ true → cursor_le x y ≡ true → cursor_need InBrigade y ≡ None → Within (after_before c x s) (after_before c y t)
+  befores : (c : ℕ) (x y : CursorKnown) → is_set (t.cursors c) ≡ true → cursor_leq x y ≡ true → cursor_need InBrigade y ≡ None → Within (after_before c x s) (after_before c y t)
   befores c (In m u) (In n v) set p h = subst (λ (i : ℕ). Within (after_before c (In i u) s) (after_before c (In n v) t)) (sym (eqb-true m n (number m n u v p)))
       (if_both n (put_in before_content n c s) (put_in before_content n c t) (put_both before_content before_rises n c set))
   befores c x Unset set p h = cc
@@ -253,11 +253,11 @@ module _ (p : Program) (s t : State) (w : Within s t) where
   befores c x (End n) set p h = cc
   befores c x (InOrEnd n v) set p h = cc
 
-  asides : (c : ℕ) (q : PoolRef) (x y : CursorKnown) → cursor_le x y ≡ true → cursor_need OnBucket y ≡ None → Within (after_aside c q x s) (after_aside c q y t)
+  asides : (c : ℕ) (q : PoolRef) (x y : CursorKnown) → cursor_leq x y ≡ true → cursor_need OnBucket y ≡ None → Within (after_aside c q x s) (after_aside c q y t)
   asides c q (Loose u k) (Loose v l) p h =
-      move_within s t c (Loose u (home_in q)) (Loose v (home_in q)) w (and2 (classes_le u v) (homes_le (home_in q) (home_in q)) ((split2 (classes_le u v) (homes_le k l) p).0) (homes_same (home_in q)))
+      move_within s t c (Loose u (home_in q)) (Loose v (home_in q)) w (and2 (classes_leq u v) (homes_leq (home_in q) (home_in q)) ((split2 (classes_leq u v) (homes_leq k l) p).0) (homes_same (home_in q)))
   asides c q (In m u) (In n v) p h =
-      let change = both_homes (home_in q) in
+      let change = homes_join (home_in q) in
       subst (λ (i : ℕ). Within (after_aside c q (In i u) s) (after_aside c q (In n v) t)) (sym (eqb-true m n (number m n u v p)))
       (if_both n (set_brigade n (with_homes change (s.brigades n)) s) (set_brigade n (with_homes change (t.brigades n)) t)
       (brigade_within s t n (with_homes change (s.brigades n)) (with_homes change (t.brigades n)) w
@@ -319,13 +319,13 @@ module _ (p : Program) (s t : State) (w : Within s t) where
   after_within (effect.MakeBrigade o) h = emptied_at o
   after_within (effect.Clean b) h = cleaned b
   after_within (effect.Concat a b) h =
-      joined a b (both_homes (s.brigades a).homes (s.brigades b).homes) (both_homes (t.brigades a).homes (t.brigades b).homes)
+      joined a b (homes_join (s.brigades a).homes (s.brigades b).homes) (homes_join (t.brigades a).homes (t.brigades b).homes)
       (homes_joined (s.brigades a).homes (s.brigades b).homes (t.brigades a).homes (t.brigades b).homes (of a).homes (of b).homes)
   after_within (effect.SplitBrigade b c a) h = split_at b c a
   after_within (effect.PartBrigade b x c) h = firsts c b
   after_within (effect.Save o b) h =
       let home = home_in (pool_of_brigade p o) in
-      joined o b (both_homes (s.brigades o).homes home) (both_homes (t.brigades o).homes home) (homes_joined (s.brigades o).homes home (t.brigades o).homes home (of o).homes (homes_same home))
+      joined o b (homes_join (s.brigades o).homes home) (homes_join (t.brigades o).homes home) (homes_joined (s.brigades o).homes home (t.brigades o).homes home (of o).homes (homes_same home))
   after_within (effect.Pass b) h = passed b
   after_within (effect.First c b) h = firsts c b
   after_within (effect.Next d c) h = nexts d c (s.cursors c) (t.cursors c) (w.cursors c) (h.0)
@@ -362,7 +362,7 @@ edges_within p s t w i none =
     let v = after_within p s t w e (met t (wants p (instr_with e)) (needs_with p i t none)) in
     led_within p s t w (after p e s) (after p e t) v (branch_of i) (leads p s t w i (met t (wants p i) none))
 
-edge_below : (x y : Option State) → EdgeWithin x y → edge_le x y ≡ true
+edge_below : (x y : Option State) → EdgeWithin x y → edge_leq x y ≡ true
 edge_below None y h = refl
 edge_below (Some a) None h = absurd h
 edge_below (Some a) (Some b) h = below a b h

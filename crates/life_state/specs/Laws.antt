@@ -3,15 +3,15 @@ use Rattle.std.specs.Prelude.{◌≡◌, ℕ, ◌<◌, true, false}
 use Rattle.life_state.specs.States.{State}
 use Rattle.life_state.specs.Facts.{known}
 use Rattle.life_state.specs.Form.{IsFormed}
-use Rattle.life_state.specs.Order.{pool_le, brigade_le, cursor_le, same_variables, leq, join}
+use Rattle.life_state.specs.Order.{pool_leq, brigade_leq, cursor_leq, same_variables, leq, join}
 
 -- What the order says, part by part.
 pub record Below (a b : State) : Type 0 where
   pub variables : same_variables a b ≡ true
   pub sent : a.sent ≡ true → b.sent ≡ true
-  pub pools : (q : ℕ) → q < 8 → pool_le (a.pools q) (b.pools q) ≡ true
-  pub brigades : (v : ℕ) → v < 9 → brigade_le (a.brigades v) (b.brigades v) ≡ true
-  pub cursors : (c : ℕ) → c < 9 → cursor_le (a.cursors c) (b.cursors c) ≡ true
+  pub pools : (q : ℕ) → q < 8 → pool_leq (a.pools q) (b.pools q) ≡ true
+  pub brigades : (v : ℕ) → v < 9 → brigade_leq (a.brigades v) (b.brigades v) ≡ true
+  pub cursors : (c : ℕ) → c < 9 → cursor_leq (a.cursors c) (b.cursors c) ≡ true
   pub facts : (c d : ℕ) → c < 9 → d < 9 → b.facts c d ≡ true → known a c d ≡ true
 
 abbrev pub LeqSays : Type 0

@@ -8,17 +8,17 @@ use Rattle.life_state.specs.Rules.{Edges, rule, at_main, at_return, at_end_of_re
 use Rattle.life_state.specs.Form.{IsFormed}
 
 -- an edge that can be taken can be taken there too, and leads to a state below that one
-abbrev pub edge_le : Option State → Option State → Bool
-edge_le None t = true
-edge_le (Some s) None = false
-edge_le (Some s) (Some t) = leq s t
+abbrev pub edge_leq : Option State → Option State → Bool
+edge_leq None t = true
+edge_leq (Some s) None = false
+edge_leq (Some s) (Some t) = leq s t
 
 -- the edges of a rule that does not refuse
 pub record LeadsBelow (p : Program) (i : Instr) (s : State) (e : Edges) : Type 0 where
   pub edges : Edges
   pub safe : rule p i s ≡ Ok edges
-  pub next : edge_le edges.next e.next ≡ true
-  pub jump : edge_le edges.jump e.jump ≡ true
+  pub next : edge_leq edges.next e.next ≡ true
+  pub jump : edge_leq edges.jump e.jump ≡ true
 
 abbrev pub RulesAreMonotone : Type 0
 RulesAreMonotone = (p : Program) (i : Instr) (s t : State) (e : Edges) → IsFormed s → IsFormed t → leq s t ≡ true → rule p i t ≡ Ok e → LeadsBelow p i s e

@@ -7,7 +7,7 @@ use Rattle.life_state.specs.declared.parts.Contents.{Contents}
 use Rattle.life_state.specs.declared.parts.Contents.TheVariants.{Empty, Flushes, NoEos, NoLateData, Any}
 use Rattle.life_state.specs.declared.parts.Classes.{Classes}
 use Rattle.life_state.specs.declared.parts.PoolState.{PoolState}
-use Rattle.life_state.specs.States.{Homes, both_homes, BrigadeKnown, is_live_brigade, is_usable_alone, CursorKnown, Unset, Loose, In, End, InOrEnd, State}
+use Rattle.life_state.specs.States.{Homes, homes_join, BrigadeKnown, is_live_brigade, is_usable_alone, CursorKnown, Unset, Loose, In, End, InOrEnd, State}
 use Rattle.life_state.specs.Facts.{place_of, known, facts_of}
 
 abbrev pub implies : Bool → Bool → Bool
@@ -25,78 +25,78 @@ rank NoEos = 2
 rank NoLateData = 3
 rank Any = 4
 
-abbrev pub content_le : Contents → Contents → Bool
-content_le a b = nat_le (rank a) (rank b)
+abbrev pub content_leq : Contents → Contents → Bool
+content_leq a b = nat_le (rank a) (rank b)
 
-abbrev pub greater : Contents → Contents → Contents
-greater a b = if content_le a b then b else a
+abbrev pub content_join : Contents → Contents → Contents
+content_join a b = if content_leq a b then b else a
 
-abbrev pub classes_le : Classes → Classes → Bool
-classes_le a b = implies a.bytes b.bytes && implies a.flush b.flush && implies a.eos b.eos
+abbrev pub classes_leq : Classes → Classes → Bool
+classes_leq a b = implies a.bytes b.bytes && implies a.flush b.flush && implies a.eos b.eos
 
-abbrev pub both_classes : Classes → Classes → Classes
-both_classes a b = record { bytes = a.bytes || b.bytes; flush = a.flush || b.flush; eos = a.eos || b.eos }
+abbrev pub classes_join : Classes → Classes → Classes
+classes_join a b = record { bytes = a.bytes || b.bytes; flush = a.flush || b.flush; eos = a.eos || b.eos }
 
-abbrev pub pool_le : PoolState → PoolState → Bool
-pool_le a b = implies a.null b.null && implies a.gone b.gone && implies a.live b.live
+abbrev pub pool_leq : PoolState → PoolState → Bool
+pool_leq a b = implies a.null b.null && implies a.gone b.gone && implies a.live b.live
 
-abbrev pub both_pools : PoolState → PoolState → PoolState
-both_pools a b = record { null = a.null || b.null; gone = a.gone || b.gone; live = a.live || b.live }
+abbrev pub pool_join : PoolState → PoolState → PoolState
+pool_join a b = record { null = a.null || b.null; gone = a.gone || b.gone; live = a.live || b.live }
 
 -- each pool that the first has is one of the second
-abbrev pub places_le : (PoolRef → Bool) → (PoolRef → Bool) → Bool
-places_le f g = implies (f pool.Req) (g pool.Req) && all_below 8 (λ i. implies (f (pool.Own i)) (g (pool.Own i)))
+abbrev pub places_leq : (PoolRef → Bool) → (PoolRef → Bool) → Bool
+places_leq f g = implies (f pool.Req) (g pool.Req) && all_below 8 (λ i. implies (f (pool.Own i)) (g (pool.Own i)))
 
-abbrev pub homes_le : Homes → Homes → Bool
-homes_le a b = implies a.call b.call && implies a.dead b.dead && places_le a.at b.at
+abbrev pub homes_leq : Homes → Homes → Bool
+homes_leq a b = implies a.call b.call && implies a.dead b.dead && places_leq a.at b.at
 
-abbrev pub variable_le : BrigadeKnown → BrigadeKnown → Bool
-variable_le a b = implies a.null b.null && implies a.gone b.gone && implies a.live b.live
+abbrev pub variable_leq : BrigadeKnown → BrigadeKnown → Bool
+variable_leq a b = implies a.null b.null && implies a.gone b.gone && implies a.live b.live
 
-abbrev pub marks_le : BrigadeKnown → BrigadeKnown → Bool
-marks_le a b = implies a.usable b.usable && implies a.passed b.passed
+abbrev pub marks_leq : BrigadeKnown → BrigadeKnown → Bool
+marks_leq a b = implies a.usable b.usable && implies a.passed b.passed
 
-unfoldable pub brigade_le : BrigadeKnown → BrigadeKnown → Bool
-brigade_le a b = variable_le a b && marks_le a b && content_le a.content b.content && homes_le a.homes b.homes
+unfoldable pub brigade_leq : BrigadeKnown → BrigadeKnown → Bool
+brigade_leq a b = variable_leq a b && marks_leq a b && content_leq a.content b.content && homes_leq a.homes b.homes
 
-unfoldable pub both_brigades : BrigadeKnown → BrigadeKnown → BrigadeKnown
-both_brigades a b = record {
+unfoldable pub brigade_join : BrigadeKnown → BrigadeKnown → BrigadeKnown
+brigade_join a b = record {
   null = a.null || b.null;
   gone = a.gone || b.gone;
   live = a.live || b.live;
   usable = a.usable || b.usable;
   passed = a.passed || b.passed;
-  content = greater a.content b.content;
-  homes = both_homes a.homes b.homes;
+  content = content_join a.content b.content;
+  homes = homes_join a.homes b.homes;
 }
 
-abbrev pub cursor_le : CursorKnown → CursorKnown → Bool
-cursor_le a Unset = true
-cursor_le (Loose s h) (Loose t k) = classes_le s t && homes_le h k
-cursor_le (In b s) (In c t) = b == c && classes_le s t
-cursor_le (In b s) (InOrEnd c t) = b == c && classes_le s t
-cursor_le (End b) (End c) = b == c
-cursor_le (End b) (InOrEnd c t) = b == c
-cursor_le (InOrEnd b s) (InOrEnd c t) = b == c && classes_le s t
-cursor_le _ _ = false
+abbrev pub cursor_leq : CursorKnown → CursorKnown → Bool
+cursor_leq a Unset = true
+cursor_leq (Loose s h) (Loose t k) = classes_leq s t && homes_leq h k
+cursor_leq (In b s) (In c t) = b == c && classes_leq s t
+cursor_leq (In b s) (InOrEnd c t) = b == c && classes_leq s t
+cursor_leq (End b) (End c) = b == c
+cursor_leq (End b) (InOrEnd c t) = b == c
+cursor_leq (InOrEnd b s) (InOrEnd c t) = b == c && classes_leq s t
+cursor_leq _ _ = false
 
 -- the least cursor above two of one place
-abbrev pub both_here : CursorKnown → CursorKnown → CursorKnown
-both_here (Loose s h) (Loose t k) = Loose (both_classes s t) (both_homes h k)
-both_here (In b s) (In c t) = In b (both_classes s t)
-both_here (In b s) (End c) = InOrEnd b s
-both_here (In b s) (InOrEnd c t) = InOrEnd b (both_classes s t)
-both_here (End b) (In c t) = InOrEnd b t
-both_here (End b) (End c) = End b
-both_here (End b) (InOrEnd c t) = InOrEnd b t
-both_here (InOrEnd b s) (In c t) = InOrEnd b (both_classes s t)
-both_here (InOrEnd b s) (End c) = InOrEnd b s
-both_here (InOrEnd b s) (InOrEnd c t) = InOrEnd b (both_classes s t)
-both_here _ _ = Unset
+abbrev pub join_here : CursorKnown → CursorKnown → CursorKnown
+join_here (Loose s h) (Loose t k) = Loose (classes_join s t) (homes_join h k)
+join_here (In b s) (In c t) = In b (classes_join s t)
+join_here (In b s) (End c) = InOrEnd b s
+join_here (In b s) (InOrEnd c t) = InOrEnd b (classes_join s t)
+join_here (End b) (In c t) = InOrEnd b t
+join_here (End b) (End c) = End b
+join_here (End b) (InOrEnd c t) = InOrEnd b t
+join_here (InOrEnd b s) (In c t) = InOrEnd b (classes_join s t)
+join_here (InOrEnd b s) (End c) = InOrEnd b s
+join_here (InOrEnd b s) (InOrEnd c t) = InOrEnd b (classes_join s t)
+join_here _ _ = Unset
 
 -- the least cursor above both, where the brigades stay exactly usable
-unfoldable pub both_cursors : CursorKnown → CursorKnown → CursorKnown
-both_cursors a b = if place_of a == place_of b then both_here a b else Unset
+unfoldable pub cursor_join : CursorKnown → CursorKnown → CursorKnown
+cursor_join a b = if place_of a == place_of b then join_here a b else Unset
 
 -- a cursor at a brigade needs it exactly live and exactly usable
 abbrev pub is_at_hand : BrigadeKnown → Bool
@@ -115,32 +115,32 @@ kept_cursor brigades (InOrEnd b s) = if_at_hand (brigades b) (InOrEnd b s)
 abbrev pub same_variables : State → State → Bool
 same_variables a b = (a.pool_count == b.pool_count) && (a.brigade_count == b.brigade_count)
 
-abbrev pub pools_le : State → State → Bool
-pools_le a b = all_below 8 (λ q. pool_le (a.pools q) (b.pools q))
+abbrev pub pools_leq : State → State → Bool
+pools_leq a b = all_below 8 (λ q. pool_leq (a.pools q) (b.pools q))
 
-abbrev pub brigades_le : State → State → Bool
-brigades_le a b = all_below 9 (λ v. brigade_le (a.brigades v) (b.brigades v))
+abbrev pub brigades_leq : State → State → Bool
+brigades_leq a b = all_below 9 (λ v. brigade_leq (a.brigades v) (b.brigades v))
 
-abbrev pub cursors_le : State → State → Bool
-cursors_le a b = all_below 9 (λ c. cursor_le (a.cursors c) (b.cursors c))
+abbrev pub cursors_leq : State → State → Bool
+cursors_leq a b = all_below 9 (λ c. cursor_leq (a.cursors c) (b.cursors c))
 
 -- each written fact of b is written or implied in a
-abbrev pub facts_le : State → State → Bool
-facts_le a b = all_below 9 (λ c. all_below 9 (λ d. implies (b.facts c d) (known a c d)))
+abbrev pub facts_leq : State → State → Bool
+facts_leq a b = all_below 9 (λ c. all_below 9 (λ d. implies (b.facts c d) (known a c d)))
 
 -- a is below b
 unfoldable pub leq : State → State → Bool
-leq a b = same_variables a b && implies a.sent b.sent && pools_le a b && brigades_le a b && cursors_le a b && facts_le a b
+leq a b = same_variables a b && implies a.sent b.sent && pools_leq a b && brigades_leq a b && cursors_leq a b && facts_leq a b
 
 -- the variables and cursors of two states together
 abbrev pub joined_pools : State → State → ℕ → PoolState
-joined_pools a b q = both_pools (a.pools q) (b.pools q)
+joined_pools a b q = pool_join (a.pools q) (b.pools q)
 
 abbrev pub joined_brigades : State → State → ℕ → BrigadeKnown
-joined_brigades a b v = both_brigades (a.brigades v) (b.brigades v)
+joined_brigades a b v = brigade_join (a.brigades v) (b.brigades v)
 
 abbrev pub joined_cursors : State → State → ℕ → CursorKnown
-joined_cursors a b c = kept_cursor (joined_brigades a b) (both_cursors (a.cursors c) (b.cursors c))
+joined_cursors a b c = kept_cursor (joined_brigades a b) (cursor_join (a.cursors c) (b.cursors c))
 
 -- the least state above two of the same variables
 unfoldable pub join : State → State → State

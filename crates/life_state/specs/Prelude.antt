@@ -13,13 +13,13 @@ pub use Rattle.life_state.specs.InForm.{is_formed_place, is_formed_pool, is_free
 pub use Rattle.life_state.specs.InState.{condition_fits, effect_fits}
 pub use Rattle.life_state.specs.Laws.{JoinIsAbove, JoinIsLeast, LeqHolds, LeqIsAntisymmetric, LeqIsReflexive, LeqIsTransitive, LeqSays}
 pub use Rattle.life_state.specs.Monotone.{EntriesAreMonotone, RulesAreMonotone}
-pub use Rattle.life_state.specs.Order.{all_below, both_brigades, both_classes, both_cursors, both_pools, brigade_le, classes_le}
-pub use Rattle.life_state.specs.Order.{content_le, cursor_le, greater, pool_le, rank}
+pub use Rattle.life_state.specs.Order.{all_below, brigade_join, classes_join, cursor_join, pool_join, brigade_leq, classes_leq}
+pub use Rattle.life_state.specs.Order.{content_leq, cursor_leq, content_join, pool_leq, rank}
 pub use Rattle.life_state.specs.PoolOrder.{is_clearable, is_same_place, is_under, parent_of}
-pub use Rattle.life_state.specs.Rules.{after, after_aside, after_bcreate, after_before, after_bsave, after_join, after_make, after_next}
+pub use Rattle.life_state.specs.Rules.{after, after_aside, after_bcreate, after_before, after_bsave, after_concat, after_make, after_next}
 pub use Rattle.life_state.specs.Rules.{after_pass, after_unlink, classes_of, cleared, cleared_brigade, cleared_cursors, cleared_pool}
 pub use Rattle.life_state.specs.Rules.{cursor_need, edges, edges_jempty, edges_jend, edges_jkind, edges_jnull, first_need, homes_at, made}
 pub use Rattle.life_state.specs.Rules.{need, on_condition, put_in, rule, side_content, split_part, told_classes}
 pub use Rattle.life_state.specs.Seen.{seen, seen_answer, seen_brigade, seen_cursor, seen_edges, seen_homes, seen_pools, seen_some}
-pub use Rattle.life_state.specs.States.{In, both_homes, ended_brigade, ended_pool, holds, is_live_alone, is_live_brigade, is_usable_alone}
+pub use Rattle.life_state.specs.States.{In, homes_join, ended_brigade, ended_pool, holds, is_live_alone, is_live_brigade, is_usable_alone}
 pub use Rattle.life_state.specs.States.{never_made, no_homes, set_brigade, set_pool}

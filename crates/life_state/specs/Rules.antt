@@ -29,9 +29,9 @@ use Rattle.life_state.specs.declared.parts.Contents.{Contents}
 use Rattle.life_state.specs.declared.parts.Contents.TheVariants.{Empty, Flushes, NoEos, NoLateData, Any}
 use Rattle.life_state.specs.declared.parts.Classes.{Classes}
 use Rattle.life_state.specs.declared.parts.PoolState.{PoolState}
-use Rattle.life_state.specs.States.{Homes, no_homes, only_call, home_in, both_homes, dead_where, only_null, only_live, is_live_alone, ended_pool, BrigadeKnown, never_made, holds, passed_on}
+use Rattle.life_state.specs.States.{Homes, no_homes, only_call, home_in, homes_join, dead_where, only_null, only_live, is_live_alone, ended_pool, BrigadeKnown, never_made, holds, passed_on}
 use Rattle.life_state.specs.States.{is_live_brigade, is_usable_alone, ended_brigade, with_homes, CursorKnown, Unset, Loose, In, End, InOrEnd, State, set_pool, set_brigade}
-use Rattle.life_state.specs.Order.{content_le, greater}
+use Rattle.life_state.specs.Order.{content_leq, content_join}
 use Rattle.life_state.specs.Facts.{is_end, known, moved, set_cursor, move_bucket}
 use Rattle.life_state.specs.PoolOrder.{is_same_place, is_under}
 
@@ -73,7 +73,7 @@ send_limit true = Flushes
 send_limit false = NoLateData
 
 abbrev pub send_need : Bool → BrigadeKnown → Option FaultKind
-send_need sent v = if content_le v.content (send_limit sent) then None else Some F8
+send_need sent v = if content_leq v.content (send_limit sent) then None else Some F8
 
 -- a brigade that may be live and usable, with a bucket that may live through this call alone
 abbrev pub keeps_call : BrigadeKnown → Bool
@@ -99,12 +99,12 @@ first_need s (w ∷ ws) = or_else (need s w) (first_need s ws)
 -- Contents of brigades that buckets come to.
 
 -- one brigade behind another
-abbrev pub joined_content : Contents → Contents → Contents
-joined_content Empty b = b
-joined_content Flushes b = greater Flushes b
-joined_content NoEos b = greater NoEos b
-joined_content NoLateData b = if content_le b Flushes then NoLateData else Any
-joined_content Any b = Any
+abbrev pub concat_content : Contents → Contents → Contents
+concat_content Empty b = b
+concat_content Flushes b = content_join Flushes b
+concat_content NoEos b = content_join NoEos b
+concat_content NoLateData b = if content_leq b Flushes then NoLateData else Any
+concat_content Any b = Any
 
 -- the least contents in which buckets of these classes may stand
 abbrev pub content_of : Classes → Contents
@@ -114,20 +114,20 @@ content_of s = if s.eos then NoLateData else (if s.bytes then NoEos else Flushes
 abbrev pub tail_content : Contents → Classes → Contents
 tail_content NoLateData s = if s.bytes then Any else NoLateData
 tail_content Any s = Any
-tail_content b s = greater b (content_of s)
+tail_content b s = content_join b (content_of s)
 
 abbrev pub head_content : Contents → Classes → Contents
 head_content Any s = Any
-head_content b s = if s.eos then (if content_le b Flushes then NoLateData else Any) else greater b (content_of s)
+head_content b s = if s.eos then (if content_leq b Flushes then NoLateData else Any) else content_join b (content_of s)
 
 abbrev pub before_data : Contents → Contents
-before_data b = if content_le b NoEos then NoEos else Any
+before_data b = if content_leq b NoEos then NoEos else Any
 
 abbrev pub before_eos : Contents → Contents
-before_eos b = if content_le b Flushes then NoLateData else Any
+before_eos b = if content_leq b Flushes then NoLateData else Any
 
 abbrev pub before_content : Contents → Classes → Contents
-before_content b s = if s.eos then before_eos b else (if s.bytes then before_data b else greater b Flushes)
+before_content b s = if s.eos then before_eos b else (if s.bytes then before_data b else content_join b Flushes)
 
 -- Where cursors are after buckets moved.
 
@@ -244,16 +244,16 @@ abbrev pub after_bclean : ℕ → State → State
 after_bclean b s = moved (λ k. emptied b (s.cursors k)) (set_brigade b (holds Empty no_homes) s)
 
 -- the buckets of b go to the tail of a, whose homes become these (APR_BRIGADE_CONCAT, ap_save_brigade)
-abbrev pub after_join : ℕ → ℕ → Homes → State → State
-after_join a b homes s =
+abbrev pub after_concat : ℕ → ℕ → Homes → State → State
+after_concat a b homes s =
     moved (λ k. carried a b (s.cursors k))
-    (set_brigade b (holds Empty no_homes) (set_brigade a (holds (joined_content (s.brigades a).content (s.brigades b).content) homes) s))
+    (set_brigade b (holds Empty no_homes) (set_brigade a (holds (concat_content (s.brigades a).content (s.brigades b).content) homes) s))
 
 abbrev pub after_bconcat : ℕ → ℕ → State → State
-after_bconcat a b s = after_join a b (both_homes (s.brigades a).homes (s.brigades b).homes) s
+after_bconcat a b s = after_concat a b (homes_join (s.brigades a).homes (s.brigades b).homes) s
 
 abbrev pub after_bsave : Program → ℕ → ℕ → State → State
-after_bsave p o b s = after_join o b (both_homes (s.brigades o).homes (home_in (pool_of_brigade p o))) s
+after_bsave p o b s = after_concat o b (homes_join (s.brigades o).homes (home_in (pool_of_brigade p o))) s
 
 -- what comes to the new brigade of a split at c (apr_brigade_split_ex)
 abbrev pub split_part : CursorKnown → BrigadeKnown → BrigadeKnown
@@ -355,7 +355,7 @@ after_bdelete c s = move_bucket c Unset s
 abbrev pub put_in : (Contents → Classes → Contents) → ℕ → ℕ → State → State
 put_in content b c s =
     move_bucket c (In b (classes_of (s.cursors c)))
-    (set_brigade b (holds (content (s.brigades b).content (classes_of (s.cursors c))) (both_homes (s.brigades b).homes (homes_at s (s.cursors c)))) s)
+    (set_brigade b (holds (content (s.brigades b).content (classes_of (s.cursors c))) (homes_join (s.brigades b).homes (homes_at s (s.cursors c)))) s)
 
 -- at the tail, at the head
 abbrev pub side_content : Side → Contents → Classes → Contents
@@ -410,7 +410,7 @@ after_make c from s = made c (classes_from from s) (homes_from from s) s
 -- apr_bucket_setaside
 abbrev pub after_aside : ℕ → PoolRef → CursorKnown → State → State
 after_aside c p (Loose t h) s = move_bucket c (Loose t (home_in p)) s
-after_aside c p (In b t) s = if_brigade b (set_brigade b (with_homes (both_homes (home_in p)) (s.brigades b)) s) s
+after_aside c p (In b t) s = if_brigade b (set_brigade b (with_homes (homes_join (home_in p)) (s.brigades b)) s) s
 after_aside c p _ s = s
 
 -- apr_bucket_read: `rd` is c's bucket

@@ -70,8 +70,8 @@ is_home _ _ = false
 abbrev pub home_in : PoolRef → Homes
 home_in p = record { call = false; dead = false; at = is_home p }
 
-abbrev pub both_homes : Homes → Homes → Homes
-both_homes a b = record { call = a.call || b.call; dead = a.dead || b.dead; at = λ k. a.at k || b.at k }
+abbrev pub homes_join : Homes → Homes → Homes
+homes_join a b = record { call = a.call || b.call; dead = a.dead || b.dead; at = λ k. a.at k || b.at k }
 
 -- whether some pool is meant that passes the test
 abbrev pub any_place : (PoolRef → Bool) → Bool

@@ -27,10 +27,10 @@ pub fn leq(a: &State, b: &State) -> bool
 {
     for k in 0..9u8 {
         let facts = are_known(a, b, k);
-        let pool = (k == 8) | a.pool(k).is_in(&b.pool(k));
+        let pool = (k == 8) | a.pool(k).leq(&b.pool(k));
         // Compared where they stand: to copy them would cost more than to compare them.
-        let brigade = a.brigades[usize::from(k)].is_in(&b.brigades[usize::from(k)]);
-        let cursor = a.cursors[usize::from(k)].is_in(&b.cursors[usize::from(k)]);
+        let brigade = a.brigades[usize::from(k)].leq(&b.brigades[usize::from(k)]);
+        let cursor = a.cursors[usize::from(k)].leq(&b.cursors[usize::from(k)]);
         let below = pool & brigade & cursor & facts;
         if !below {
             return false;

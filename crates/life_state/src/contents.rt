@@ -1,7 +1,7 @@
 //! What stands in a brigade that buckets come to, and which buckets stand at cursors.
 
 ghost use Rattle.std.specs.Prelude.{◌≡◌};
-ghost use Rattle.life_state.specs.Rules.{joined_content, content_of, tail_content, head_content, before_eos, before_content, bucket_or_end, is_empty, may_end};
+ghost use Rattle.life_state.specs.Rules.{concat_content, content_of, tail_content, head_content, before_eos, before_content, bucket_or_end, is_empty, may_end};
 ghost use Rattle.life_state.specs.Rules.{of_kind, not_of_kind, some_class, with_classes, classes_of};
 ghost use Rattle.life_state.specs.Seen.{seen_cursor};
 
@@ -10,15 +10,15 @@ use module_code::KindTest;
 
 impl Contents {
     /// One brigade behind another.
-    pub(crate) fn joined(self, behind: Contents) -> Contents
-        ensures { result ≡ joined_content self behind }
+    pub(crate) fn concat(self, behind: Contents) -> Contents
+        ensures { result ≡ concat_content self behind }
     {
         match self {
             Contents::Empty => behind,
-            Contents::Flushes => Contents::Flushes.greater(behind),
-            Contents::NoEos => Contents::NoEos.greater(behind),
+            Contents::Flushes => Contents::Flushes.join(behind),
+            Contents::NoEos => Contents::NoEos.join(behind),
             Contents::NoLateData => {
-                if behind.is_at_most(Contents::Flushes) {
+                if behind.leq(Contents::Flushes) {
                     Contents::NoLateData
                 } else {
                     Contents::Any
@@ -41,16 +41,16 @@ impl Contents {
                 }
             }
             Contents::Any => Contents::Any,
-            Contents::Empty => Contents::Empty.greater(classes.content()),
-            Contents::Flushes => Contents::Flushes.greater(classes.content()),
-            Contents::NoEos => Contents::NoEos.greater(classes.content()),
+            Contents::Empty => Contents::Empty.join(classes.content()),
+            Contents::Flushes => Contents::Flushes.join(classes.content()),
+            Contents::NoEos => Contents::NoEos.join(classes.content()),
         }
     }
 
     fn before_eos(self) -> Contents
         ensures { result ≡ before_eos self }
     {
-        if self.is_at_most(Contents::Flushes) {
+        if self.leq(Contents::Flushes) {
             Contents::NoLateData
         } else {
             Contents::Any
@@ -67,7 +67,7 @@ impl Contents {
                 if classes.eos {
                     self.before_eos()
                 } else {
-                    self.greater(classes.content())
+                    self.join(classes.content())
                 }
             }
         }
@@ -80,13 +80,13 @@ impl Contents {
         if classes.eos {
             self.before_eos()
         } else if classes.bytes {
-            if self.is_at_most(Contents::NoEos) {
+            if self.leq(Contents::NoEos) {
                 Contents::NoEos
             } else {
                 Contents::Any
             }
         } else {
-            self.greater(Contents::Flushes)
+            self.join(Contents::Flushes)
         }
     }
 

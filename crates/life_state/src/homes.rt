@@ -1,8 +1,8 @@
 //! What buckets may live as long as.
 
 ghost use Rattle.std.specs.Prelude.{◌≡◌};
-ghost use Rattle.life_state.specs.States.{no_homes, only_call, home_in, both_homes, dead_where};
-ghost use Rattle.life_state.specs.Order.{homes_le};
+ghost use Rattle.life_state.specs.States.{no_homes, only_call, home_in, homes_join, dead_where};
+ghost use Rattle.life_state.specs.Order.{homes_leq};
 ghost use Rattle.life_state.specs.Seen.{seen_pools, seen_homes};
 
 use crate::parts::{HomeSet, PoolSet};
@@ -47,13 +47,13 @@ impl HomeSet {
     }
 
     /// The homes of both.
-    pub(crate) fn both(&self, other: &HomeSet) -> HomeSet
-        ensures { seen_homes result ≡ both_homes (seen_homes self.now) (seen_homes other.now) }
+    pub(crate) fn join(&self, other: &HomeSet) -> HomeSet
+        ensures { seen_homes result ≡ homes_join (seen_homes self.now) (seen_homes other.now) }
     {
         HomeSet {
             call: self.call | other.call,
             dead: self.dead | other.dead,
-            pools: self.pools.both(&other.pools),
+            pools: self.pools.join(&other.pools),
         }
     }
 
@@ -69,11 +69,11 @@ impl HomeSet {
     }
 
     /// Whether all these homes are among the other ones.
-    pub(crate) fn is_in(&self, other: &HomeSet) -> bool
-        ensures { result ≡ homes_le (seen_homes self.now) (seen_homes other.now) }
+    pub(crate) fn leq(&self, other: &HomeSet) -> bool
+        ensures { result ≡ homes_leq (seen_homes self.now) (seen_homes other.now) }
     {
         implies(self.call, other.call)
             & implies(self.dead, other.dead)
-            & self.pools.is_in(&other.pools)
+            & self.pools.leq(&other.pools)
     }
 }

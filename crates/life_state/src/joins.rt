@@ -1,7 +1,7 @@
 //! The least state above two.
 
 ghost use Rattle.std.specs.Prelude.{◌≡◌};
-ghost use Rattle.life_state.specs.Order.{both_cursors, kept_cursor, join};
+ghost use Rattle.life_state.specs.Order.{cursor_join, kept_cursor, join};
 ghost use Rattle.life_state.specs.Seen.{seen, seen_brigades, seen_cursor, seen_cursors};
 
 use crate::facts::Keep;
@@ -26,11 +26,11 @@ fn kept(brigades: &[BrigadeState; 9], cursor: CursorState) -> CursorState
 
 /// The least cursors above those of two states, of which those are kept whose brigades stay exactly live and usable.
 fn joined_cursors(a: &State, b: &State, brigades: &[BrigadeState; 9]) -> [CursorState; 9]
-    ensures { seen_cursors result ≡ (λ c. kept_cursor (seen_brigades brigades.now) (both_cursors ((seen a.now).cursors c) ((seen b.now).cursors c))) }
+    ensures { seen_cursors result ≡ (λ c. kept_cursor (seen_brigades brigades.now) (cursor_join ((seen a.now).cursors c) ((seen b.now).cursors c))) }
 {
     let mut cursors = [CursorState::Unset; 9];
     for c in 0..9u8 {
-        cursors[usize::from(c)] = kept(brigades, a.cursor(c).both(&b.cursor(c)));
+        cursors[usize::from(c)] = kept(brigades, a.cursor(c).join(&b.cursor(c)));
     }
     cursors
 }
@@ -45,10 +45,10 @@ pub fn join(a: &State, b: &State) -> State
     let mut pools = [PoolState::NULL; 8];
     let mut brigades = [BrigadeState::UNMADE; 9];
     for k in 0..8u8 {
-        pools[usize::from(k)] = a.pool(k).both(&b.pool(k));
-        brigades[usize::from(k)] = a.brigade(k).both(&b.brigade(k));
+        pools[usize::from(k)] = a.pool(k).join(&b.pool(k));
+        brigades[usize::from(k)] = a.brigade(k).join(&b.brigade(k));
     }
-    brigades[8] = a.brigade(8).both(&b.brigade(8));
+    brigades[8] = a.brigade(8).join(&b.brigade(8));
     let cursors = joined_cursors(a, b, &brigades);
     State {
         pool_count: a.pool_count,

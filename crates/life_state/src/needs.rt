@@ -66,7 +66,7 @@ impl State {
                 } else {
                     Contents::NoLateData
                 };
-                (!self.content(b).is_at_most(limit)).then_some(FaultKind::F8)
+                (!self.content(b).leq(limit)).then_some(FaultKind::F8)
             }
             Want::Return => {
                 for b in 0..8u8 {

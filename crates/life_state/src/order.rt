@@ -1,8 +1,8 @@
 //! The order of the parts of a state: the greater one says less.
 
 ghost use Rattle.std.specs.Prelude.{◌≡◌};
-ghost use Rattle.life_state.specs.Prelude.{is_live_alone, ended_pool, is_live_brigade, is_usable_alone, holds, never_made, no_homes, ended_brigade, rank, content_le, greater, classes_le};
-ghost use Rattle.life_state.specs.Prelude.{both_classes, pool_le, both_pools, brigade_le, both_brigades, cursor_le, both_cursors, seen_homes, seen_brigade, seen_cursor};
+ghost use Rattle.life_state.specs.Prelude.{is_live_alone, ended_pool, is_live_brigade, is_usable_alone, holds, never_made, no_homes, ended_brigade, rank, content_leq, content_join, classes_leq};
+ghost use Rattle.life_state.specs.Prelude.{classes_join, pool_leq, pool_join, brigade_leq, brigade_join, cursor_leq, cursor_join, seen_homes, seen_brigade, seen_cursor};
 ghost use Rattle.life_state.specs.declared.parts.Contents.TheVariants as Contents;
 
 use crate::parts::{BrigadeState, Classes, Contents, CursorState, HomeSet, PoolState};
@@ -22,31 +22,31 @@ impl Contents {
     }
 
     /// Whether the other contents allow no less.
-    pub(crate) fn is_at_most(self, other: Contents) -> bool
-        ensures { result ≡ content_le self other }
+    pub(crate) fn leq(self, other: Contents) -> bool
+        ensures { result ≡ content_leq self other }
     {
         self.rank() <= other.rank()
     }
 
     /// The one that allows more.
-    pub(crate) fn greater(self, other: Contents) -> Contents
-        ensures { result ≡ greater self other }
+    pub(crate) fn join(self, other: Contents) -> Contents
+        ensures { result ≡ content_join self other }
     {
-        if self.is_at_most(other) { other } else { self }
+        if self.leq(other) { other } else { self }
     }
 }
 
 impl Classes {
-    fn is_in(&self, other: &Classes) -> bool
-        ensures { result ≡ classes_le self.now other.now }
+    fn leq(&self, other: &Classes) -> bool
+        ensures { result ≡ classes_leq self.now other.now }
     {
         implies(self.bytes, other.bytes)
             & implies(self.flush, other.flush)
             & implies(self.eos, other.eos)
     }
 
-    fn both(&self, other: &Classes) -> Classes
-        ensures { result ≡ both_classes self.now other.now }
+    fn join(&self, other: &Classes) -> Classes
+        ensures { result ≡ classes_join self.now other.now }
     {
         Classes {
             bytes: self.bytes | other.bytes,
@@ -57,16 +57,16 @@ impl Classes {
 }
 
 impl PoolState {
-    pub(crate) fn is_in(&self, other: &PoolState) -> bool
-        ensures { result ≡ pool_le self.now other.now }
+    pub(crate) fn leq(&self, other: &PoolState) -> bool
+        ensures { result ≡ pool_leq self.now other.now }
     {
         implies(self.null, other.null)
             & implies(self.gone, other.gone)
             & implies(self.live, other.live)
     }
 
-    pub(crate) fn both(&self, other: &PoolState) -> PoolState
-        ensures { result ≡ both_pools self.now other.now }
+    pub(crate) fn join(&self, other: &PoolState) -> PoolState
+        ensures { result ≡ pool_join self.now other.now }
     {
         PoolState {
             null: self.null | other.null,
@@ -95,19 +95,19 @@ impl PoolState {
 }
 
 impl BrigadeState {
-    #[tactic(auto, unfolding(crate::specs::Order::brigade_le))]
-    pub(crate) fn is_in(&self, other: &BrigadeState) -> bool
-        ensures { result ≡ brigade_le (seen_brigade self.now) (seen_brigade other.now) }
+    #[tactic(auto, unfolding(crate::specs::Order::brigade_leq))]
+    pub(crate) fn leq(&self, other: &BrigadeState) -> bool
+        ensures { result ≡ brigade_leq (seen_brigade self.now) (seen_brigade other.now) }
     {
         let variable = implies(self.null, other.null)
             & implies(self.gone, other.gone)
             & implies(self.live, other.live);
         let marks = implies(self.usable, other.usable) & implies(self.passed, other.passed);
-        variable & marks & self.content.is_at_most(other.content) & self.homes.is_in(&other.homes)
+        variable & marks & self.content.leq(other.content) & self.homes.leq(&other.homes)
     }
 
-    pub(crate) fn both(&self, other: &BrigadeState) -> BrigadeState
-        ensures { seen_brigade result ≡ both_brigades (seen_brigade self.now) (seen_brigade other.now) }
+    pub(crate) fn join(&self, other: &BrigadeState) -> BrigadeState
+        ensures { seen_brigade result ≡ brigade_join (seen_brigade self.now) (seen_brigade other.now) }
     {
         BrigadeState {
             null: self.null | other.null,
@@ -115,8 +115,8 @@ impl BrigadeState {
             live: self.live | other.live,
             usable: self.usable | other.usable,
             passed: self.passed | other.passed,
-            content: self.content.greater(other.content),
-            homes: self.homes.both(&other.homes),
+            content: self.content.join(other.content),
+            homes: self.homes.join(&other.homes),
         }
     }
 
@@ -183,15 +183,15 @@ impl BrigadeState {
 }
 
 impl CursorState {
-    pub(crate) fn is_in(&self, other: &CursorState) -> bool
-        ensures { result ≡ cursor_le (seen_cursor self.now) (seen_cursor other.now) }
+    pub(crate) fn leq(&self, other: &CursorState) -> bool
+        ensures { result ≡ cursor_leq (seen_cursor self.now) (seen_cursor other.now) }
     {
         match (self, other) {
             (_, CursorState::Unset) => true,
-            (CursorState::Loose(s, h), CursorState::Loose(t, k)) => s.is_in(t) & h.is_in(k),
+            (CursorState::Loose(s, h), CursorState::Loose(t, k)) => s.leq(t) & h.leq(k),
             (CursorState::In(b, s), CursorState::In(c, t))
             | (CursorState::In(b, s), CursorState::InOrEnd(c, t))
-            | (CursorState::InOrEnd(b, s), CursorState::InOrEnd(c, t)) => (b == c) & s.is_in(t),
+            | (CursorState::InOrEnd(b, s), CursorState::InOrEnd(c, t)) => (b == c) & s.leq(t),
             (CursorState::End(b), CursorState::End(c))
             | (CursorState::End(b), CursorState::InOrEnd(c, _)) => b == c,
             _ => false,
@@ -199,22 +199,22 @@ impl CursorState {
     }
 
     /// The least that is above both.
-    #[tactic(auto, unfolding(crate::specs::Order::both_cursors))]
-    pub(crate) fn both(&self, other: &CursorState) -> CursorState
-        ensures { seen_cursor result ≡ both_cursors (seen_cursor self.now) (seen_cursor other.now) }
+    #[tactic(auto, unfolding(crate::specs::Order::cursor_join))]
+    pub(crate) fn join(&self, other: &CursorState) -> CursorState
+        ensures { seen_cursor result ≡ cursor_join (seen_cursor self.now) (seen_cursor other.now) }
     {
         if self.place() != other.place() {
             return CursorState::Unset;
         }
         match (self, other) {
             (CursorState::Loose(s, h), CursorState::Loose(t, k)) => {
-                CursorState::Loose(s.both(t), h.both(k))
+                CursorState::Loose(s.join(t), h.join(k))
             }
-            (CursorState::In(b, s), CursorState::In(_, t)) => CursorState::In(*b, s.both(t)),
+            (CursorState::In(b, s), CursorState::In(_, t)) => CursorState::In(*b, s.join(t)),
             (CursorState::In(b, s), CursorState::InOrEnd(_, t))
             | (CursorState::InOrEnd(b, s), CursorState::In(_, t))
             | (CursorState::InOrEnd(b, s), CursorState::InOrEnd(_, t)) => {
-                CursorState::InOrEnd(*b, s.both(t))
+                CursorState::InOrEnd(*b, s.join(t))
             }
             (CursorState::In(b, s), CursorState::End(_))
             | (CursorState::InOrEnd(b, s), CursorState::End(_)) => CursorState::InOrEnd(*b, *s),

@@ -2,7 +2,7 @@
 
 ghost use Rattle.std.specs.Prelude.{◌≡◌, ◌||◌, ◌&&◌, not, slice_index_or, false};
 ghost use Rattle.life_state.specs.States.{is_home, any_place};
-ghost use Rattle.life_state.specs.Order.{implies, places_le};
+ghost use Rattle.life_state.specs.Order.{implies, places_leq};
 ghost use Rattle.life_state.specs.Seen.{seen_pools};
 
 use crate::parts::PoolSet;
@@ -58,7 +58,7 @@ impl PoolSet {
     }
 
     /// The pools of both.
-    pub(crate) fn both(&self, other: &PoolSet) -> PoolSet
+    pub(crate) fn join(&self, other: &PoolSet) -> PoolSet
         ensures { seen_pools result ≡ (λ k. seen_pools self.now k || seen_pools other.now k) }
     {
         let mut own = [false; 8];
@@ -98,8 +98,8 @@ impl PoolSet {
     }
 
     /// Whether another set has all its pools.
-    pub(crate) fn is_in(&self, other: &PoolSet) -> bool
-        ensures { result ≡ places_le (seen_pools self.now) (seen_pools other.now) }
+    pub(crate) fn leq(&self, other: &PoolSet) -> bool
+        ensures { result ≡ places_leq (seen_pools self.now) (seen_pools other.now) }
     {
         for q in 0..8 {
             if self.own[q] & !other.own[q] {

@@ -150,7 +150,7 @@ impl State {
             }
             Effect::MakeBrigade(o) => self.bcreate(o),
             Effect::Clean(b) => self.bcreate(b).move_cursors(Motion::Emptied(b)),
-            Effect::Concat(a, b) => self.join_brigades(a, b, self.homes(a).both(&self.homes(b))),
+            Effect::Concat(a, b) => self.concat_brigades(a, b, self.homes(a).join(&self.homes(b))),
             Effect::SplitBrigade(b, c, a) => self
                 .with_brigade(a, self.split_part(b, self.cursor(c)))
                 .move_cursors(Motion::SplitOff(b, c, a)),

@@ -1,7 +1,7 @@
 //! What effects make of a state.
 
 ghost use Rattle.std.specs.Prelude.{◌≡◌, ◌<◌, length};
-ghost use Rattle.life_state.specs.Prelude.{set_brigade, holds, both_homes, In, move_bucket, classes_of, homes_at, after_bcreate, after_join, after_bsave, split_part, after_next, after_unlink};
+ghost use Rattle.life_state.specs.Prelude.{set_brigade, holds, homes_join, In, move_bucket, classes_of, homes_at, after_bcreate, after_concat, after_bsave, split_part, after_next, after_unlink};
 ghost use Rattle.life_state.specs.Prelude.{side_content, put_in, after_before, made, after_aside, after_pass, seen, seen_homes, seen_brigade, seen_cursor};
 
 use crate::clears::pool_of_brigade;
@@ -30,12 +30,12 @@ impl State {
         self.with_brigade(b, BrigadeState::empty())
     }
 
-    pub(crate) fn join_brigades(self, a: u8, b: u8, homes: HomeSet) -> State
+    pub(crate) fn concat_brigades(self, a: u8, b: u8, homes: HomeSet) -> State
         requires first { a < 9 }
         requires second { b < 9 }
-        ensures { seen result ≡ after_join a b (seen_homes homes) (seen self) }
+        ensures { seen result ≡ after_concat a b (seen_homes homes) (seen self) }
     {
-        let content = self.content(a).joined(self.content(b));
+        let content = self.content(a).concat(self.content(b));
         self.with_brigade(a, BrigadeState::holding(content, homes))
             .bcreate(b)
             .move_cursors(Motion::Carried(a, b))
@@ -48,7 +48,7 @@ impl State {
         ensures { seen result ≡ after_bsave code.now o b (seen self) }
     {
         let pool = pool_of_brigade(code, self.brigade_count(), o);
-        self.join_brigades(o, b, self.homes(o).both(&HomeSet::in_pool(pool)))
+        self.concat_brigades(o, b, self.homes(o).join(&HomeSet::in_pool(pool)))
     }
 
     pub(crate) fn split_part(&self, b: u8, cursor: CursorState) -> BrigadeState
@@ -88,11 +88,11 @@ impl State {
     fn put_in(mut self, content: Contents, b: u8, c: u8) -> State
         requires first { c < 9 }
         requires second { b < 9 }
-        ensures { seen result ≡ move_bucket c (In b (classes_of ((seen self).cursors c))) (set_brigade b (holds content (both_homes
+        ensures { seen result ≡ move_bucket c (In b (classes_of ((seen self).cursors c))) (set_brigade b (holds content (homes_join
             ((seen self).brigades b).homes (homes_at (seen self) ((seen self).cursors c)))) (seen self)) }
     {
         let cursor = self.cursor(c);
-        let homes = self.homes(b).both(&self.homes_at(cursor));
+        let homes = self.homes(b).join(&self.homes_at(cursor));
         self.set_brigade(b, BrigadeState::holding(content, homes));
         self.move_bucket(c, CursorState::In(b, cursor.classes()))
     }
@@ -143,7 +143,7 @@ impl State {
             }
             CursorState::In(b, _) if b < 9 => {
                 let brigade = self.brigade(b);
-                let homes = HomeSet::in_pool(pool).both(&brigade.homes);
+                let homes = HomeSet::in_pool(pool).join(&brigade.homes);
                 self.with_brigade(b, BrigadeState { homes, ..brigade })
             }
             CursorState::Unset

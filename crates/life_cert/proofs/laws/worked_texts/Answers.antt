@@ -2,14 +2,14 @@
 use Rattle.std.proofs.Common.{refl, arith}
 use Rattle.std.proofs.lemmas.Fmt.{decimal_digit}
 use Rattle.run_model.specs.Indexed.{upd}
-use Rattle.life_state.specs.Order.{all_below, brigade_le, leq}
+use Rattle.life_state.specs.Order.{all_below, brigade_leq, leq}
 use Rattle.life_cert.specs.CertText.{cert_text, first_with}
 use Rattle.life_cert.specs.Examples.{WorkedTexts}
 use Rattle.life_cert.specs.StateText.{each, homes_text, state_text}
 use Rattle.life_cert.proofs.laws.worked_texts.Goals as goal
 
 worked : WorkedTexts
-unfolding upd each homes_text state_text cert_text first_with leq all_below brigade_le
+unfolding upd each homes_text state_text cert_text first_with leq all_below brigade_leq
 worked = record {
   identity = rw (
     decimal_digit 0 (omega arith),

@@ -6,7 +6,7 @@ use Rattle.run_model.specs.declared.fault.FaultKind.TheVariants.{F6, F8}
 use Rattle.run_model.specs.declared.want.Want.{Want}
 use Rattle.run_model.specs.Wants.{want_of}
 use Rattle.life_state.specs.States.{BrigadeKnown}
-use Rattle.life_state.specs.Order.{content_le}
+use Rattle.life_state.specs.Order.{content_leq}
 use Rattle.life_state.specs.Rules.{keeps_call, send_limit, need}
 use Rattle.life_state.specs.Seen.{seen}
 use Rattle.life_state.proofs.Below.{none_below, some_below}
@@ -42,6 +42,6 @@ returns-after-sent c =
       | then-sent w ↦ w.limit-is ∙ ap send_limit (sym w.if-sent.true ∙ c.sent.ensures)
       | else-sent w ↦ w.limit-is ∙ ap send_limit (sym w.if-sent.false ∙ c.sent.ensures)
     ] in
-    c.then_some-in-Send.ensures ∙ unless_fits c.is_at_most.result
-    ∙ ap (λ (b : Bool). if b then None else Some F8) (c.is_at_most.ensures ∙ ap₂ content_le c.content.ensures limit)
+    c.then_some-in-Send.ensures ∙ unless_fits c.leq.result
+    ∙ ap (λ (b : Bool). if b then None else Some F8) (c.leq.ensures ∙ ap₂ content_leq c.content.ensures limit)
     ∙ sym (ap (λ (w : Want). need s (want_of w)) c.in-Send.is)

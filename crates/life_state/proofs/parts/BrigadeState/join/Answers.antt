@@ -2,12 +2,12 @@
 use Rattle.std.proofs.Common.{◌||◌, ap, ◌∙◌}
 use Rattle.life_state.specs.declared.parts.Contents.{Contents}
 use Rattle.life_state.specs.States.{Homes, BrigadeKnown}
-use Rattle.life_state.specs.Order.{both_brigades}
+use Rattle.life_state.specs.Order.{brigade_join}
 use Rattle.life_state.specs.Seen.{seen_homes}
-use Rattle.life_state.proofs.parts.BrigadeState.both.Goals as goal
+use Rattle.life_state.proofs.parts.BrigadeState.join.Goals as goal
 
 pub returns : goal.returns
-unfolding both_brigades
+unfolding brigade_join
 returns c =
     let a = c.args.self.now in
     let b = c.args.other.now in
@@ -20,4 +20,4 @@ returns c =
       content = content;
       homes = homes;
     } in
-    ap (λ content. of content (seen_homes c.both.result)) c.greater.ensures ∙ ap (of _) c.both.ensures
+    ap (λ content. of content (seen_homes c.join-2.result)) c.join.ensures ∙ ap (of _) c.join-2.ensures

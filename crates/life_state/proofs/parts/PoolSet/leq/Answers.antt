@@ -2,7 +2,7 @@
 use Rattle.std.proofs.Common.{◌≡◌, ℕ, Bool, true, false, ◌&&◌, not, slice_index_or, arith, rules}
 use Rattle.life_state.specs.Order.{implies, all_below}
 use Rattle.life_state.proofs.Below.{all_below_holds, all_below_fails}
-use Rattle.life_state.proofs.parts.PoolSet.is_in.Goals as goal
+use Rattle.life_state.proofs.parts.PoolSet.leq.Goals as goal
 
 implied : (a b : Bool) → (a && not b) ≡ false → implies a b ≡ true
 implied a b h = search rules

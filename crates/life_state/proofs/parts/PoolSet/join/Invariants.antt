@@ -1,6 +1,6 @@
 -- The pools so far are those of both.
 use Rattle.std.proofs.Common.{◌≡◌, ◌||◌, ℕ, ◌<◌, false, length, slice_index_or}
-use Rattle.life_state.proofs.parts.PoolSet.both.Given as goal
+use Rattle.life_state.proofs.parts.PoolSet.join.Given as goal
 
 abbrev pub invariant-loop-q : goal.invariant-loop-q
 invariant-loop-q l =
