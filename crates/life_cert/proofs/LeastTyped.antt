@@ -21,7 +21,7 @@ use Rattle.life_state.proofs.FormPasses.{passes_form}
 use Rattle.life_state.proofs.Tests.{and2, and3}
 use Rattle.life_state.proofs.WithinRules.{rules_are_monotone}
 use Rattle.life_check.specs.Certificates.{Certificate, AreFormed}
-use Rattle.life_check.specs.Typed.{is_below, flows, declares, has_in, has_no_cursor, fits_between, fits_line, fits_lines, has_shape, main_from, request_end, left_by, exits, first_refusal, IsLed}
+use Rattle.life_check.specs.Typed.{is_below, flows, declares, has_in, has_no_cursor, fits_between, fits_line, fits_lines, has_shape, main_from, request_end, left_by, exits, leads_on, first_refusal, IsLed}
 use Rattle.life_check.specs.Typed.{IsTyped}
 use Rattle.life_check.proofs.Completed.{below_itself, declared, line_fits}
 use Rattle.life_check.proofs.TypedLaws.{none_typed}
@@ -145,7 +145,7 @@ opens_under p m zero = begins (at_open (length p.pools) (length p.brigades)) (no
 opens_under p m (suc n) = under_grown (at_open (length p.pools) (length p.brigades)) (state_at (rounds n p (begun p)).states (place.At 0))
     (state_at (rounds (suc n) p (begun p)).states (place.At 0)) (states_only_grow p m n (place.At 0)) (opens_under p m n)
 
-module _ (p : Program) (c : Certificate) (m : IsModule p) (formed : AreFormed c) (typed : IsTyped p c) where
+module _ (p : Program) (m : IsModule p) where
   each : (w : StatePlace) (s : State) → state_at (made p) w ≡ Some s → IsFormedIn p (is_in_main p w) s
   unfolding made
   each w s e = (rounds_formed p m (enough p)).each w s e
@@ -173,7 +173,7 @@ module _ (p : Program) (c : Certificate) (m : IsModule p) (formed : AreFormed c)
   unfolding made
   lines_are = (rounds_fit p m (enough p)).lines
 
-  shaped : has_shape p (made p) ≡ true
+  pub shaped : has_shape p (made p) ≡ true
   unfolding AllBare
   shaped =
       and3 (fits_between p (made p).idle) (fits_between p (made p).ready) (fits_lines p (made p))
@@ -182,7 +182,7 @@ module _ (p : Program) (c : Certificate) (m : IsModule p) (formed : AreFormed c)
 
   -- What is handed on has arrived.
 
-  closed : (w : StatePlace) → All (CertUnder (made p)) (handed_by p w (state_at (made p) w))
+  pub closed : (w : StatePlace) → All (CertUnder (made p)) (handed_by p w (state_at (made p) w))
   closed w = states_are_closed p m w
 
   flows_there : (w : StatePlace) (o : Option State) → All (CertUnder (made p)) (arriving w o) → flows o (state_at (made p) w) ≡ true
@@ -197,15 +197,15 @@ module _ (p : Program) (c : Certificate) (m : IsModule p) (formed : AreFormed c)
   back [] ys h = h
   back (x ∷ xs) ys h = back xs ys (λ k d low. h (suc k) d (omega arith))
 
-  inits_there : (o : Option State) → All (CertUnder (made p)) (handed_by p place.Idle o) → flows o ((made p).at p.init) ≡ true
+  pub inits_there : (o : Option State) → All (CertUnder (made p)) (handed_by p place.Idle o) → flows o ((made p).at p.init) ≡ true
   inits_there None h = refl
   inits_there (Some s) h = flows_there (place.At p.init) (Some s) h
 
-  serves_there : (o : Option State) → All (CertUnder (made p)) (handed_by p place.Ready o) → flows (main_from o) ((made p).at p.main) ≡ true
+  pub serves_there : (o : Option State) → All (CertUnder (made p)) (handed_by p place.Ready o) → flows (main_from o) ((made p).at p.main) ≡ true
   serves_there None h = refl
   serves_there (Some s) h = flows_there (place.At p.main) (Some (at_main s)) (front (arriving (place.At p.main) (Some (at_main s))) (arriving place.Idle (Some (at_end_of_request p s))) h)
 
-  requests_there : (o : Option State) → All (CertUnder (made p)) (handed_by p place.Ready o) → flows (request_end p o) (made p).idle ≡ true
+  pub requests_there : (o : Option State) → All (CertUnder (made p)) (handed_by p place.Ready o) → flows (request_end p o) (made p).idle ≡ true
   requests_there None h = refl
   requests_there (Some s) h = flows_there place.Idle (Some (at_end_of_request p s)) (back (arriving (place.At p.main) (Some (at_main s))) (arriving place.Idle (Some (at_end_of_request p s))) h)
 
@@ -216,41 +216,47 @@ module _ (p : Program) (c : Certificate) (m : IsModule p) (formed : AreFormed c)
   exits_there pc (instr.Ret u) s h = ap (is_below (at_return s)) (sym (left_at pc)) ∙ flows_there (left_place p pc) (Some (at_return s)) h
   exits_there pc _ s h = refl
 
+  -- An instruction that cannot have a fault is accepted.
+  handed_all : (pc : ℕ) (i : Instr) (s : State) (d : Edges) → slice_get p.code pc ≡ Some i → (made p).at pc ≡ Some s → rule p i s ≡ Ok d → All (CertUnder (made p)) (handed_by_rule p pc i s (Ok d))
+  handed_all pc i s d here line safe =
+      subst (λ (r : Result Edges FaultKind). All (CertUnder (made p)) (handed_by_rule p pc i s r)) safe
+      (subst (λ (o : Option Instr). All (CertUnder (made p)) (handed_by_line p pc o s)) here
+      (subst (λ (o : Option State). All (CertUnder (made p)) (handed_by p (place.At pc) o)) line (closed (place.At pc))))
+
+  pub led_to : (pc : ℕ) (i : Instr) (s : State) (d : Edges) → slice_get p.code pc ≡ Some i → (made p).at pc ≡ Some s → rule p i s ≡ Ok d → leads_on (made p) pc i d ≡ true
+  led_to pc i s d here line safe =
+      let on = front (edges_arriving pc i d) (arriving (left_place p pc) (returned i s)) (handed_all pc i s d here line safe) in
+      let next = arriving (place.At (pc + 1)) d.next in
+      let jump = arriving (place.At (unwrap_or (target i) 0)) d.jump in
+      and2 (flows d.next ((made p).at (pc + 1))) (flows d.jump ((made p).at (unwrap_or (target i) 0))) (flows_there (place.At (pc + 1)) d.next (front next jump on))
+      (flows_there (place.At (unwrap_or (target i) 0)) d.jump (back next jump on))
+
+  pub exits_on : (pc : ℕ) (i : Instr) (s : State) (d : Edges) → slice_get p.code pc ≡ Some i → (made p).at pc ≡ Some s → rule p i s ≡ Ok d → exits p (made p) pc i s ≡ true
+  exits_on pc i s d here line safe = exits_there pc i s (back (edges_arriving pc i d) (arriving (left_place p pc) (returned i s)) (handed_all pc i s d here line safe))
+
+  pub open_there : is_below (at_open (length p.pools) (length p.brigades)) ((made p).at 0) ≡ true
+  unfolding made
+  open_there = opens_under p m (enough p)
+
+module _ (p : Program) (c : Certificate) (m : IsModule p) (formed : AreFormed c) (typed : IsTyped p c) where
   -- An instruction that is accepted in a greater state is so in this one.
   led : (pc : ℕ) (i : Instr) (s : State) (q : Option State) → slice_get p.code pc ≡ Some i → (made p).at pc ≡ Some s → c.at pc ≡ q → is_below s q ≡ true → IsLed p (made p) pc i s
   led pc i s None here line e h = cc
   led pc i s (Some t) here line e le =
-      let f = (each (place.At pc) s line).formed in
+      let f = (each p m (place.At pc) s line).formed in
       let g : IsFormed t = subst (λ (o : Option State). IfSome o IsFormed) e (formed.at pc) in
       let of_t = typed.lines pc i t here e in
       let less = rules_are_monotone p i s t of_t.edges f g le of_t.safe in
-      let d = less.edges in
-      let all : All (CertUnder (made p)) (handed_by_rule p pc i s (Ok d)) = subst (λ (r : Result Edges FaultKind). All (CertUnder (made p)) (handed_by_rule p pc i s r)) less.safe
-      (subst (λ (o : Option Instr). All (CertUnder (made p)) (handed_by_line p pc o s)) here
-      (subst (λ (o : Option State). All (CertUnder (made p)) (handed_by p (place.At pc) o)) line (closed (place.At pc)))) in
-      let on = front (edges_arriving pc i d) (arriving (left_place p pc) (returned i s)) all in
-      let next = arriving (place.At (pc + 1)) d.next in
-      let jump = arriving (place.At (unwrap_or (target i) 0)) d.jump in
-      record {
-        edges = d;
-        safe = less.safe;
-        leads = and2 (flows d.next ((made p).at (pc + 1))) (flows d.jump ((made p).at (unwrap_or (target i) 0))) (flows_there (place.At (pc + 1)) d.next (front next jump on))
-            (flows_there (place.At (unwrap_or (target i) 0)) d.jump (back next jump on));
-        exits = exits_there pc i s (back (edges_arriving pc i d) (arriving (left_place p pc) (returned i s)) all);
-      }
-
-  open_there : is_below (at_open (length p.pools) (length p.brigades)) ((made p).at 0) ≡ true
-  unfolding made
-  open_there = opens_under p m (enough p)
+      record { edges = less.edges; safe = less.safe; leads = led_to p m pc i s less.edges here line less.safe; exits = exits_on p m pc i s less.edges here line less.safe }
 
   typed_made : IsTyped p (made p)
   typed_made = record {
-    shape = shaped;
-    opens = open_there;
-    inits = inits_there (made p).idle (closed place.Idle);
-    serves = serves_there (made p).ready (closed place.Ready);
+    shape = shaped p m;
+    opens = open_there p m;
+    inits = inits_there p m (made p).idle (closed p m place.Idle);
+    serves = serves_there p m (made p).ready (closed p m place.Ready);
     lines = λ pc i s here line. led pc i s (c.at pc) here line refl (made_is_least p c m formed typed (place.At pc) s line);
-    requests = requests_there (made p).ready (closed place.Ready);
+    requests = requests_there p m (made p).ready (closed p m place.Ready);
   }
 
 -- so where the rounds are refused, none is accepted

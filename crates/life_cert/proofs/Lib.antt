@@ -35,5 +35,7 @@ pub mod TextLengths
 pub mod DraftSteps
 pub mod PrintedCert
 pub mod OneCert
+pub mod OneFault
 pub mod Least
 pub mod LeastTyped
+pub mod OnlyFaults

@@ -261,7 +261,7 @@ one_cert v w s t c d named known f g e =
     (shape.0, first.1, record { idle = idle.0; ready = ready.0; at = λ pc. at_pc (is_two v) c d f g lines pc (nat_lt pc 1024) refl })
 
 -- what the reader gives may be printed
-seen_writable : (r : Cert) → IsCertificate (seen_cert r) → IsWritable (seen_cert r)
+pub seen_writable : (r : Cert) → IsCertificate (seen_cert r) → IsWritable (seen_cert r)
 seen_writable r h =
     let gone : (pc : ℕ) → length r.at.items ≤ pc → seen_line (slice_get r.at.items pc) ≡ None = λ pc past. ap seen_line (slice_get_past r.at.items pc past) in
     let few = h.few in

@@ -16,8 +16,8 @@ pub use Rattle.life_cert.specs.CertText.{said_by, said_line, state_or_none, vars
 pub use Rattle.life_cert.specs.Drafts.{IsNoState, IsReadState, IsSameNumber, NoStateIsIn, NoStateOrNoneIsIn}
 pub use Rattle.life_cert.specs.Fitting.{IsDeclared, IsFit, IsOf, is_inside}
 pub use Rattle.life_cert.specs.Least.{IsBelow}
-pub use Rattle.life_cert.specs.Made.{IsCertMade, IsRefused}
-pub use Rattle.life_cert.specs.Reading.{EndTold, HaveSameStates, IsCertText, IsPrinted, IsState, IsStateOrNone, IsReported, IsToldOf}
+pub use Rattle.life_cert.specs.Made.{IsCertMade, IsRefused, RefusesByFault}
+pub use Rattle.life_cert.specs.Reading.{AnswersFault, EndTold, HaveSameStates, IsCertText, IsPrinted, IsState, IsStateOrNone, IsReported, IsToldOf}
 pub use Rattle.life_cert.specs.Reading.{IsToldState, more_than}
 pub use Rattle.life_cert.specs.Rounds.{merge, arriving, begun, edges_arriving, enough, grow, handed_by, handed_by_line, handed_on}
 pub use Rattle.life_cert.specs.Rounds.{left_place, made, returned, round, state_at, with_state}

@@ -228,6 +228,12 @@ IsToldBy P NoMemory = Unit {0}
 abbrev pub IsReported : List ℕ → CertRefusal → Type 0
 IsReported text e = IsToldBy (HasCertLineCode text) e
 
+-- the answer is this fault, or that memory was wanting
+abbrev pub AnswersFault : {X : Type 0} → ℕ → CertCode → Result X CertRefusal → Type 0
+AnswersFault n c (Ok x) = ⊥
+AnswersFault n c (Err (Fault m d)) = (m ≡ n) × (d ≡ c)
+AnswersFault n c (Err NoMemory) = Unit {0}
+
 -- the same of a text that is short enough, and goes on where it is `long`
 abbrev pub more_than : Bool → List ℕ → Bool
 more_than long rest = long || not (length rest == 0)

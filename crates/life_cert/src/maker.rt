@@ -1,7 +1,7 @@
 //! The maker of certificates.
 
 ghost use Rattle.std.specs.Prelude.{◌≡◌, ◌∷◌, [], false, OnOk, IfOk};
-ghost use Rattle.life_cert.specs.Prelude.{IsModule, Accepts, Certificate, AreFormed, seen_cert, ChainNeverFaults, IsTyped, round, enough, made, IsOf, seen_growth, version_two, IsCertMade, IsRefused, IsBelow};
+ghost use Rattle.life_cert.specs.Prelude.{IsModule, Accepts, Certificate, AreFormed, seen_cert, ChainNeverFaults, IsTyped, round, enough, made, IsOf, seen_growth, version_two, IsCertMade, IsRefused, RefusesByFault, IsBelow};
 
 use crate::fixpoint::Fixpoint;
 use crate::handing::handed_on;
@@ -66,7 +66,7 @@ pub fn least_fixpoint(alloc: Global, code: &Module) -> Result<Cert, AllocError>
 
 /// Makes a certificate of version 2 that gives all states. The states grow from none, in rounds over all instructions at once: each hands on what it leads to, where its
 /// state grew in the round before, and one that may have a fault hands on nothing. The certificate is accepted by `check`, and so no run of the module alone answers a fault; where it
-/// is not, the refusal is the first of `check`, which is at the lowest instruction that may have a fault. Of all certificates that `check` accepts it is the least, and a module is
+/// is not, the refusal is the first of `check`: the fault of the first instruction that may have one, and nothing else. Of all certificates that `check` accepts it is the least, and a module is
 /// refused only where there is none. It takes a line for each instruction, and `NoMemory` comes where these or what is handed on cannot be held.
 pub fn make(alloc: Global, code: &Module) -> Result<Cert, MakeRefusal>
     ensures version { IfOk result (λ c. c.version ≡ version_two code.now) }
@@ -74,6 +74,7 @@ pub fn make(alloc: Global, code: &Module) -> Result<Cert, MakeRefusal>
     ensures accepted { IfOk result (λ c. Accepts code.now c) }
     ensures typed { IfOk result (λ c. IsTyped code.now (seen_cert c)) }
     ensures made { IsCertMade code.now result }
+    ensures fault { RefusesByFault code.now result }
     ensures least { IfOk result (λ c. (other : Certificate) → AreFormed other → IsTyped code.now other → IsBelow (seen_cert c) other) }
     ensures complete { IsRefused result → (other : Certificate) → AreFormed other → IsTyped code.now other → ⊥ }
     ensures safe { OnOk result (ChainNeverFaults (code.now ∷ [])) }

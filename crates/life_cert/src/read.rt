@@ -1,9 +1,10 @@
 //! Certificates from their texts.
 
-ghost use Rattle.std.specs.Prelude.{◌≡◌, Bool, ◌≤◌, ◌<◌, ◌++◌, IfOk, IfErr, MatchResult, OnOk, Result, length, take, not, ◌||◌, ◌==◌, true, false};
+ghost use Rattle.std.specs.Prelude.{◌≡◌, ℕ, Bool, ◌≤◌, ◌<◌, ◌++◌, IfOk, IfErr, MatchResult, OnOk, Result, length, take, not, ◌||◌, ◌==◌, true, false};
 ghost use Rattle.life_check.specs.declared.version.CertVersion.{CertVersion};
-ghost use Rattle.life_cert.specs.Prelude.{Certificate, seen_cert, HaveSameStates, IsPrinted, IsCertText, IsReported, IsToldOf, EndTold, more_than};
-ghost use Rattle.life_cert.specs.declared.refusal.CertRefusal.TheVariants.{NoMemory};
+ghost use Rattle.life_cert.specs.Prelude.{AnswersFault, Certificate, seen_cert, HaveSameStates, IsPrinted, IsCertText, IsReported, IsToldOf, EndTold, more_than};
+ghost use Rattle.life_cert.specs.declared.refusal.CertCode.{CertCode as fault_code};
+ghost use Rattle.life_cert.specs.declared.refusal.CertRefusal.TheVariants.{Fault, NoMemory};
 
 use crate::draft::CertDraft;
 use crate::due::{Due, is_over};
@@ -61,11 +62,12 @@ fn read_lines(alloc: Global, text: &[u8], long: bool) -> Result<Cert, CertRefusa
     })
 }
 
-/// The certificate that a text spells, or its first faulty line, from 1, with the lowest code that fits it. A text has at
-/// most 4,194,304 bytes; `NoMemory` is the answer where memory was wanting.
+/// The certificate that a text spells, or its first faulty line, from 1, with the lowest code that fits it: where a text has one,
+/// that is the answer. A text has at most 4,194,304 bytes; `NoMemory` is the answer where memory was wanting.
 pub fn read_cert(alloc: Global, text: &[u8]) -> Result<Cert, CertRefusal>
     ensures right { IfOk result (λ c. IsCertText text.now c.version c.slim (seen_cert c)) }
     ensures told { IfErr result (λ e. IsReported text.now e) }
+    ensures first { (line : ℕ) (code : fault_code) → IsReported text.now (Fault line code) → AnswersFault line code result }
     ensures again { (v : CertVersion) (slim : Bool) (c : Certificate) → IsPrinted text.now v slim c → MatchResult result (λ r. (r.version ≡ v) × (r.slim ≡ slim) × HaveSameStates (seen_cert r) c) (λ e. e ≡ NoMemory) }
 {
     if MAX_LEN < text.len() {
