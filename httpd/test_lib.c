@@ -435,7 +435,7 @@ static bool ends_without_memory(const char *folder, bool as_filter, long from)
     uint64_t number = 0;
     uint32_t code;
     bool whole = false;
-    part = "want of memory";
+    part = "out of memory";
     texts = none;
     add(&texts, folder, as_filter ? "upper.filter" : "upper.mod", false);
     texts.lengths[0].kind = as_filter ? CIDAWRU_FILTER : CIDAWRU_MODULE;

@@ -128,7 +128,7 @@ def stands_broken(command, answer, well):
 
 
 def is_broken_well(commands, conn, answers, well):
-    """Whether these answers are those where a want of memory broke a connection, by its number as a word: others answer as before."""
+    """Whether these answers are those where running out of memory broke a connection, by its number as a word: others answer as before."""
     closed = False
     for command, answer, whole in zip(commands, answers, well):
         serves = command == b'pools' or (command.split(b' ')[1:2] == [conn] and not closed)

@@ -95,7 +95,7 @@ class Growths:
         """Whether the command at a place, which was refused, changed nothing. A `bring` opens its files first, which the device counts."""
         line = trial.lines[place]
         word = line.decode('latin-1').split(' ')[0]
-        arose('%s refused for want of memory by the driver' % word)
+        arose('%s refused for lack of memory by the driver' % word)
         if word == 'bring' and b' file ' in line and any(map(is_told, trial.lines)):
             return True
         without = trial.lines[:place] + trial.lines[place + 1:]
@@ -115,9 +115,9 @@ class Growths:
     def is_broken_well(self, trial, place, found):
         """Whether the connection that is broken at a place stands so, and the others answer as where memory lasts."""
         word, conn = trial.lines[place].split(b' ')[:2]
-        arose('%s broken for want of memory by the driver' % word.decode('latin-1'))
+        arose('%s broken for lack of memory by the driver' % word.decode('latin-1'))
         later = trial.lines[place + 1:], conn, of_lines(found[place + 1:]), of_lines(trial.answers[place + 1:])
         if shares(trial):
             return stands_alone_broken(*later)
-        arose('other connections compared where one is broken for want of memory')
+        arose('other connections compared where one is broken for lack of memory')
         return is_broken_well(*later)

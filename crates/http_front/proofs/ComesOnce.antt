@@ -69,7 +69,7 @@ output_same (Ok s) (Err q) is = absurd (cc)
 output_same (Err r) (Ok t) is = absurd (cc)
 output_same (Err r) (Err q) is = (let same : r ≡ q = cc in ap Err same)
 
--- a refusal for want of memory
+-- a refusal for lack of memory
 lacking : (r : Refusal) → answers_no_memory (Refused r) ≡ true → r ≡ refusal.NoMemory
 lacking refusal.NoMemory is = refl
 lacking r is = absurd (cc)

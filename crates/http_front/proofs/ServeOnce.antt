@@ -39,7 +39,7 @@ use Rattle.http_front.specs.declared.handler.RequestOutcome.{RequestOutcome}
 use Rattle.http_front.proofs.ComesOnce.{done_same, requests_are_deterministic, requests_keep_files_known}
 use Rattle.http_front.proofs.StreamOnce.{responses_once, text_sent}
 
--- The connection of this number is broken, for want of memory.
+-- The connection of this number is broken, for lack of memory.
 abbrev IsLacking : ℕ → World → Type 0
 IsLacking number w = (c : Connection) × (w.conns number ≡ Some c) × (c.broken ≡ Some cause.NoMemory)
 
@@ -107,7 +107,7 @@ module _ (b : ℕ) (chain : List Program) (number : ℕ) where
         let never : false ≡ true = ap is_no_memory one ∙ lacks in absurd (cc))
     by (Some c) is = broke s.world t.world r (steps acts.memory b chain acts.told.reads (s.world.common, c)) c acts.memory acts.told.reads refl is lacks
 
--- Two hosts of one world, or of one whose connection is broken for want of memory.
+-- Two hosts of one world, or of one whose connection is broken for lack of memory.
 module _ {F R : Type 0} {g : Ghosts R Stored} (device : F → Device) (number : ℕ) where
   record AlikeHosts (h k : Host F R g) : Type 0 where
     w : World

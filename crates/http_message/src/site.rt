@@ -97,7 +97,7 @@ impl Site {
         let Ok(name) = Vec::from_slice(self.alloc, file) else {
             return Err(SiteFault::NoMemory);
         };
-        // A path that is good and free is refused for want of memory alone.
+        // A path that is good and free is refused for lack of memory alone.
         let Ok(()) = self.routes.insert(path, name) else {
             return Err(SiteFault::NoMemory);
         };

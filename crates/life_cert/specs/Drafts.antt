@@ -136,7 +136,7 @@ LineAdded d n l (Ok u) e = IsLineAdded d l e
 LineAdded d n l (Err (Fault m c)) e = (m ≡ n) × IsRefused d l c
 LineAdded d n l (Err NoMemory) e = Unit {0}
 
--- what stands behind the first word of line n is no state, as this says, or memory was wanting
+-- what stands behind the first word of line n is no state, as this says, or memory ran out
 abbrev pub IsNoState : ℕ → Type 0 → CertRefusal → Type 0
 IsNoState n Lacks (Fault m c) = (m ≡ n) × ((c ≡ code.NotState) × Lacks)
 IsNoState n Lacks NoMemory = Unit {0}

@@ -20,7 +20,7 @@ IsCertMade p (Ok c) = seen_cert c ≡ made p
 IsCertMade p (Err (At pc rule)) = first_refusal p (made p) ≡ Some (refusal pc rule)
 IsCertMade p (Err NoMemory) = Unit {0}
 
--- the module is refused: it was not that memory was wanting
+-- the module is refused: memory did not run out
 abbrev pub IsRefused : Result Cert MakeRefusal → Type 0
 IsRefused (Ok c) = ⊥
 IsRefused (Err (At pc rule)) = Unit {0}

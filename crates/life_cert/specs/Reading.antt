@@ -220,7 +220,7 @@ pub record IsToldFirst (P : ℕ → CertCode → Type 0) (n : ℕ) (c : CertCode
   pub line : (m : ℕ) (d : CertCode) → P m d → n ≤ m
   pub lowest : (d : CertCode) → P n d → code_number c ≤ code_number d
 
--- a fault that is told is the first; want of memory says nothing
+-- a fault that is told is the first; running out of memory says nothing
 abbrev pub IsToldBy : (ℕ → CertCode → Type 0) → CertRefusal → Type 0
 IsToldBy P (Fault n c) = IsToldFirst P n c
 IsToldBy P NoMemory = Unit {0}
@@ -228,7 +228,7 @@ IsToldBy P NoMemory = Unit {0}
 abbrev pub IsReported : List ℕ → CertRefusal → Type 0
 IsReported text e = IsToldBy (HasCertLineCode text) e
 
--- the answer is this fault, or that memory was wanting
+-- the answer is this fault, or that memory ran out
 abbrev pub AnswersFault : {X : Type 0} → ℕ → CertCode → Result X CertRefusal → Type 0
 AnswersFault n c (Ok x) = ⊥
 AnswersFault n c (Err (Fault m d)) = (m ≡ n) × (d ≡ c)

@@ -63,7 +63,7 @@ fn read_lines(alloc: Global, text: &[u8], long: bool) -> Result<Cert, CertRefusa
 }
 
 /// The certificate that a text spells, or its first faulty line, from 1, with the lowest code that fits it: where a text has one,
-/// that is the answer. A text has at most 4,194,304 bytes; `NoMemory` is the answer where memory was wanting.
+/// that is the answer. A text has at most 4,194,304 bytes; `NoMemory` is the answer where memory runs out.
 pub fn read_cert(alloc: Global, text: &[u8]) -> Result<Cert, CertRefusal>
     ensures right { IfOk result (λ c. IsCertText text.now c.version c.slim (seen_cert c)) }
     ensures told { IfErr result (λ e. IsReported text.now e) }

@@ -32,7 +32,7 @@ use Rattle.run_laws.specs.KnownFiles.{AreFilesKnown, is_no_memory, is_out_of_mem
 use Rattle.run_laws.proofs.DeviceReads.{never_fails}
 use Rattle.run_laws.proofs.StepOnce.{closed_once, steps_once}
 
--- What tells no want of memory is answered, and left, also where no memory is refused.
+-- What is not out of memory is answered, and left, also where no memory is refused.
 
 no_lack : (b : Bool) → b ≡ true → b ≡ false → ⊥
 no_lack b lacks none = (let never : true ≡ false = sym lacks ∙ none in cc)

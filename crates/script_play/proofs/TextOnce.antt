@@ -210,7 +210,7 @@ ends_once Over Over text other e f alike x y = (x.0 ∙ sym y.0, x.1 ∙ sym y.1
 no_head_alike : AlikeHeads no_head no_head
 no_head_alike = record { parts = tt; budget = refl; place = refl; text = refl; before = refl }
 
--- A text that may be written for a script is the only one, up to want of memory.
+-- A text that may be written for a script is the only one, up to running out of memory.
 pub written_once : (script text : List ℕ) (e : Ended) → IsWrittenFor script text e → IsOnlyTextFor script text e
 written_once script text e x other f y =
     by (lines_once (lines_of script) 1 (Reading no_head) (Reading no_head) x.answers y.answers x.stage y.stage no_head_alike x.takes y.takes) where
