@@ -7,3 +7,5 @@ pub mod RoundSteps
 pub mod ByteWalks
 pub mod TraceSteps
 pub mod TraceWalks
+pub mod States
+pub mod StateWalks

@@ -3,3 +3,4 @@ pub mod OnlyAsked
 pub mod Prelude
 pub mod ByteRounds
 pub mod Traces
+pub mod Automata

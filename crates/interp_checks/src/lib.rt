@@ -2,6 +2,7 @@
 //! instruction, here alone it is asked whether a brigade, a bucket or a pool is there.
 #![tactic(auto)]
 
+mod automata;
 mod brigade_wants;
 mod byte_rounds;
 mod faults;
@@ -9,8 +10,10 @@ mod home_walks;
 mod home_wants;
 pub mod local_steps;
 mod needs;
+mod partitions;
 mod places;
 mod pool_wants;
+mod state_walks;
 mod trace_walks;
 mod traces;
 mod walks;
