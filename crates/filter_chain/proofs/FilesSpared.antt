@@ -27,7 +27,7 @@ use Rattle.interp_calls.specs.Delivery.{IfElse, PartGiven, PartsGiven, ContentGi
 use Rattle.interp_state.specs.Given.{MayGive}
 use Rattle.module_run.specs.Proceeding.{SameBeside, TellsReads}
 use Rattle.filter_chain.specs.Spared.{Spares}
-use Rattle.module_run.specs.Stepping.{LackedIn, LackedAtTop, TellsAtTop, TellsStep}
+use Rattle.module_run.specs.Stepping.{TellsAtTop, TellsStep}
 
 module _ (e : Device) where
   -- by reads alone, no name and no number changes
@@ -119,24 +119,8 @@ module _ (d e : Device) where
   at_top chain [] v reads told = reads_spare v.1 (same e d told)
   at_top chain (f ∷ rest) v reads told = tells_reads chain (current (module_at chain f.of) f.pc) f v reads told
 
-  -- memory was refused
-  lacked_out : (last : Bool) (c : Connection) → IfElse last (SomeWentWell d e) (e ≡ d) → Spares d e c
-  lacked_out last c lacked = reads_spare c (unless e d last (SomeWentWell d e) (e ≡ d) (λ all. some e all.0 d all.1) (same e d) lacked)
-
-  lacked_in : (chain : List Program) (i : Instr) (f : Frame) (c : Connection) → LackedIn d e chain i f c → Spares d e c
-  lacked_in chain (instr.Pass b l) f c lacked = lacked_out (is_last chain c f.of) c lacked
-  lacked_in chain (instr.Ret s) f c lacked = lacked_out (is_output chain f.of) c lacked
-  lacked_in chain i f c lacked = reads_spare c (same e d lacked)
-
-  lacked_at_top : (chain : List Program) (k : Option Cause) (fs : List Frame) (c : Connection) → LackedAtTop d e chain c k fs → Spares d e c
-  unfolding LackedAtTop
-  lacked_at_top chain (Some k) fs c lacked = reads_spare c (same e d lacked)
-  lacked_at_top chain None [] c lacked = reads_spare c (same e d lacked)
-  lacked_at_top chain None (f ∷ rest) c lacked = lacked_in chain (current (module_at chain f.of) f.pc) f c lacked
-
   pub step_spares : (chain : List Program) (answer : Result Stepped Refusal) (v : Linked) (reads : Reads) → TellsStep d e chain answer v reads → Spares d e v.1
   step_spares chain (Ok stepped.Went) v reads told = at_top chain v.1.stack v reads told
   step_spares chain (Ok (stepped.CallEnded s)) v reads told = at_top chain v.1.stack v reads told
   step_spares chain (Ok (stepped.Fault kind of pc)) v reads told = reads_spare v.1 (same e d told)
-  step_spares chain (Err (refusal.Broken cause.NoMemory)) v reads told = lacked_at_top chain v.1.broken v.1.stack v.1 told
   step_spares chain (Err r) v reads told = reads_spare v.1 (same e d told)

@@ -37,7 +37,7 @@ use Rattle.model_laws.proofs.parts.Steps.{wanted_under}
 use Rattle.model_laws.proofs.parts.Within.{StaysWithin}
 use Rattle.interp_exec.specs.CarriedOut.{ClosedWith, WereLetGo}
 use Rattle.module_run.specs.Proceeding.{TellsClear, TellsReads}
-use Rattle.module_run.specs.Stepping.{ClearsAtTop, ClosesStep, LackedAtTop, LackedIn, TellsAtTop, TellsStep}
+use Rattle.module_run.specs.Stepping.{ClearsAtTop, ClosesStep, TellsAtTop, TellsStep}
 use Rattle.filter_chain.proofs.StepCounts.{went_on}
 
 -- What the device tells.
@@ -58,23 +58,11 @@ unfolding TellsAtTop
 top_alike d e chain [] g c ps reads told = told
 top_alike d e chain (f ∷ rest) g c ps reads told = reads_alike d e chain (current (module_at chain f.of) f.pc) f g c ps reads told
 
-lacked_alike : (d e : Device) (chain : List Program) (i : Instr) (f : Frame) (c : Connection) (ps : Pools Payload) → LackedIn d e chain i f (over ps c) → LackedIn d e chain i f c
-lacked_alike d e chain (instr.Pass b l) f c ps lacked = lacked
-lacked_alike d e chain (instr.Ret s) f c ps lacked = lacked
-lacked_alike d e chain i f c ps lacked = lacked
-
-lacked_at_top : (d e : Device) (chain : List Program) (k : Option Cause) (fs : List Frame) (c : Connection) (ps : Pools Payload) → LackedAtTop d e chain (over ps c) k fs → LackedAtTop d e chain c k fs
-unfolding LackedAtTop
-lacked_at_top d e chain (Some k) fs c ps lacked = lacked
-lacked_at_top d e chain None [] c ps lacked = lacked
-lacked_at_top d e chain None (f ∷ rest) c ps lacked = lacked_alike d e chain (current (module_at chain f.of) f.pc) f c ps lacked
-
 pub tells_alike : (d e : Device) (chain : List Program) (answer : Result Stepped Refusal) (g : Common) (c : Connection) (ps : Pools Payload) (reads : Reads)
     → TellsStep d e chain answer (g, over ps c) reads → TellsStep d e chain answer (g, c) reads
 tells_alike d e chain (Ok stepped.Went) g c ps reads told = top_alike d e chain c.stack g c ps reads told
 tells_alike d e chain (Ok (stepped.CallEnded s)) g c ps reads told = top_alike d e chain c.stack g c ps reads told
 tells_alike d e chain (Ok (stepped.Fault kind of pc)) g c ps reads told = told
-tells_alike d e chain (Err (refusal.Broken cause.NoMemory)) g c ps reads told = lacked_at_top d e chain c.broken c.stack c ps told
 tells_alike d e chain (Err r) g c ps reads told = told
 
 -- What is closed.

@@ -26,7 +26,7 @@ abbrev pub HasAdded : List ℕ → List ℕ → Device → Answer → Device →
 HasAdded name bytes d Done e = (is_there (d.named name) ≡ false) × (e ≡ record d { named = λ q. if bytes_eq q name then Holds bytes else d.named q })
 HasAdded name bytes d answer e = e ≡ d
 
--- A step of this connection reads what the device may give. What is refused reads nothing, but for a pass that lacks memory.
+-- A step of this connection reads what the device may give. What is refused reads nothing.
 abbrev pub StepTellsReads : List Program → HostView → Option Connection → Answer → Reads → Device → Type 0
 StepTellsReads chain s None answer reads e = e ≡ s.device
 StepTellsReads chain s (Some c) (Step t) reads e = TellsStep s.device e chain (Ok t) (s.world.common, c) reads

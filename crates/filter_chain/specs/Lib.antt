@@ -8,3 +8,4 @@ pub mod Safe
 pub mod Led
 pub mod Running
 pub mod Prelude
+pub mod Bare

@@ -12,6 +12,7 @@ use run_model::Refusal;
 
 impl<F: Files + Drop, R: Rings<Stored> + Drop> Host<F, R> {
     ghost use Rattle.filter_chain.specs.Hosting.{IsHosting, Happens, close_answer, files_of};
+    ghost use Rattle.filter_chain.specs.Bare.{is_bare};
 
     /// Closes a connection, in any state: its calls are destroyed, and then its pool with all under it. Answers the labels that ran, as
     /// `labels_run` has them, those of its own pool last. Refused, nothing is changed: `NoSuchConn`; `NoMemory`.
@@ -19,6 +20,7 @@ impl<F: Files + Drop, R: Rings<Stored> + Drop> Host<F, R> {
         requires { (w : World) × IsHosting (F.device (files_of self.old)) self.old w }
         ensures event { (w : World) → IsHosting (F.device (files_of self.old)) self.old w
             → Happens (F.device (files_of self.old)) (F.device (files_of self.new)) self.old self.new number Close (close_answer result) w }
+        ensures bare { is_bare self.new ≡ is_bare self.old }
     {
         let Some(conn) = self.conns.by_number.get_mut(&number) else {
             return Err(Refusal::NoSuchConn);

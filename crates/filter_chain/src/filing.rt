@@ -11,6 +11,7 @@ use run_model::Refusal;
 
 impl<F: Files + Drop, R: Rings<Stored> + Drop> Host<F, R> {
     ghost use Rattle.filter_chain.specs.Hosting.{IsHosting, Happens, file_answer, files_of};
+    ghost use Rattle.filter_chain.specs.Bare.{is_bare};
 
     /// Opens a file in the open request of a connection, and answers its number and its length in bytes. The request's pool holds it. Refused,
     /// nothing is changed: `NoSuchConn`; `Broken`; `Busy`; `NotInRequest`; `NoFile`: there is none of that name; `FileFailed`: the device
@@ -19,6 +20,7 @@ impl<F: Files + Drop, R: Rings<Stored> + Drop> Host<F, R> {
         requires { (w : World) × IsHosting (F.device (files_of self.old)) self.old w }
         ensures event { (w : World) → IsHosting (F.device (files_of self.old)) self.old w
             → Happens (F.device (files_of self.old)) (F.device (files_of self.new)) self.old self.new number (OpenFile name.now) (file_answer result) w }
+        ensures bare { is_bare self.new ≡ is_bare self.old }
     {
         match self.conns.by_number.get_mut(&number) {
             None => Err(Refusal::NoSuchConn),
@@ -29,14 +31,16 @@ impl<F: Files + Drop, R: Rings<Stored> + Drop> Host<F, R> {
 
 impl<R: Rings<Stored> + Drop> Host<MemFiles, R> {
     ghost use Rattle.bucket_kinds.specs.MemDevice.{mem_device};
+    ghost use Rattle.filter_chain.specs.Bare.{is_bare};
     ghost use Rattle.filter_chain.specs.Failing.{SetsToFail};
     ghost use Rattle.filter_chain.specs.Hosting.{IsHosting, TriesToAdd, budget_of, chain_of, files_of};
 
     /// Adds a file. `Taken` is told where there is a file of that name, and `NoMemory` only where there is none. Refused, nothing is
     /// changed.
     pub fn add_file(&mut self, name: &[u8], bytes: Vec<u8>) -> Result<(), AddRefusal>
-        ensures { (w : World) → IsHosting (mem_device (files_of self.old)) self.old w
+        ensures event { (w : World) → IsHosting (mem_device (files_of self.old)) self.old w
             → TriesToAdd (mem_device (files_of self.old)) (mem_device (files_of self.new)) self.old self.new name.now bytes.items result w }
+        ensures bare { is_bare self.new ≡ is_bare self.old }
     {
         self.files.add(name, bytes)
     }
@@ -49,6 +53,7 @@ impl<R: Rings<Stored> + Drop> Host<MemFiles, R> {
         ensures hosts { (w : World) → IsHosting (mem_device (files_of self.old)) self.old w → IsHosting (mem_device (files_of self.new)) self.new w }
         ensures chain { chain_of self.new ≡ chain_of self.old }
         ensures budget { budget_of self.new ≡ budget_of self.old }
+        ensures bare { is_bare self.new ≡ is_bare self.old }
     {
         self.files.fail_at(call);
     }

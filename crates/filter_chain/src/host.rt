@@ -1,6 +1,6 @@
 //! The host.
 
-ghost use Rattle.std.specs.Prelude.{◌≡◌, ◌<◌, ◌↔◌, true, IfOk, IsErrOf};
+ghost use Rattle.std.specs.Prelude.{◌≡◌, ◌<◌, ◌↔◌, true, false, IfOk, IsErrOf};
 ghost use Rattle.run_model.specs.Chains.{IsChain};
 ghost use Rattle.run_model.specs.Worlds.{new_world};
 ghost use Rattle.life_check.specs.ChainTheorem.{ChainNeverFaults};
@@ -34,6 +34,7 @@ pub struct Host<F: Files, R: Rings<Stored> = RawRings<Stored>> {
 
 impl<F: Files + Drop, R: Rings<Stored> + Drop> Host<F, R> {
     ghost use Rattle.filter_chain.specs.Hosting.{IsHosting, budget_of, chain_of, files_of};
+    ghost use Rattle.filter_chain.specs.Bare.{is_bare};
     ghost use Rattle.filter_chain.specs.Safe.{IsSafe};
 
     /// No connection, on a chain of modules. Each step is watched: a fault breaks its connection. Names begin with 1. Refused where there is
@@ -49,6 +50,7 @@ impl<F: Files + Drop, R: Rings<Stored> + Drop> Host<F, R> {
         ensures chain { IfOk result (λ host. chain_of host ≡ modules.items) }
         ensures budget { IfOk result (λ host. budget_of host ≡ limits.budget) }
         ensures files { IfOk result (λ host. files_of host ≡ files) }
+        ensures bare { IfOk result (λ host. is_bare host ≡ false) }
     {
         match Host::watched_at(alloc, files, modules, limits, 1) {
             Ok(host) => Ok(host),
@@ -71,6 +73,7 @@ impl<F: Files + Drop, R: Rings<Stored> + Drop> Host<F, R> {
         ensures chain { IfOk result (λ host. chain_of host ≡ modules.items) }
         ensures budget { IfOk result (λ host. budget_of host ≡ limits.budget) }
         ensures files { IfOk result (λ host. files_of host ≡ files) }
+        ensures bare { IfOk result (λ host. is_bare host ≡ false) }
         ensures spent { IsErrOf result PoolError.NamesSpent ↔ (first ≡ u64.MAX) }
     {
         Host::begun_at(alloc, files, modules, limits, first, false)
@@ -88,6 +91,7 @@ impl<F: Files + Drop, R: Rings<Stored> + Drop> Host<F, R> {
         ensures chain { IfOk result (λ host. chain_of host ≡ chain) }
         ensures budget { IfOk result (λ host. budget_of host ≡ limits.budget) }
         ensures files { IfOk result (λ host. files_of host ≡ files) }
+        ensures bare { IfOk result (λ host. is_bare host ≡ true) }
         ensures safe { IfOk result (λ host. IsSafe host) }
     {
         match Host::checked_at(alloc, files, chain, limits, 1) {
@@ -109,6 +113,7 @@ impl<F: Files + Drop, R: Rings<Stored> + Drop> Host<F, R> {
         ensures chain { IfOk result (λ host. chain_of host ≡ chain) }
         ensures budget { IfOk result (λ host. budget_of host ≡ limits.budget) }
         ensures files { IfOk result (λ host. files_of host ≡ files) }
+        ensures bare { IfOk result (λ host. is_bare host ≡ true) }
         ensures safe { IfOk result (λ host. IsSafe host) }
         ensures spent { IsErrOf result PoolError.NamesSpent ↔ (first ≡ u64.MAX) }
     {
@@ -131,6 +136,7 @@ impl<F: Files + Drop, R: Rings<Stored> + Drop> Host<F, R> {
         ensures chain { IfOk result (λ host. chain_of host ≡ modules.items) }
         ensures budget { IfOk result (λ host. budget_of host ≡ limits.budget) }
         ensures files { IfOk result (λ host. files_of host ≡ files) }
+        ensures bare { IfOk result (λ host. is_bare host ≡ bare) }
         ensures spent { IsErrOf result PoolError.NamesSpent ↔ (first ≡ u64.MAX) }
     {
         let tree = PoolTree::new(alloc, first)?;

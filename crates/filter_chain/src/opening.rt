@@ -20,6 +20,7 @@ fn is_last(number: u64) -> bool
 
 impl<F: Files + Drop, R: Rings<Stored> + Drop> Host<F, R> {
     ghost use Rattle.filter_chain.specs.Hosting.{IsHosting, Happens, open_answer, files_of};
+    ghost use Rattle.filter_chain.specs.Bare.{is_bare};
 
     /// Whether a number or a name that a new connection takes is not left.
     fn lacks_names(&self) -> bool
@@ -37,6 +38,7 @@ impl<F: Files + Drop, R: Rings<Stored> + Drop> Host<F, R> {
         ensures event { (w : World) → IsHosting (F.device (files_of self.old)) self.old w
             → Happens (F.device (files_of self.old)) (F.device (files_of self.new)) self.old self.new 0 Open (open_answer result) w }
         ensures files { files_of self.new ≡ files_of self.old }
+        ensures bare { is_bare self.new ≡ is_bare self.old }
     {
         if self.lacks_names() {
             return Err(Refusal::NamesSpent);

@@ -1,6 +1,6 @@
 //! Steps, one after another.
 
-ghost use Rattle.std.specs.Prelude.{◌-◌, ℕ, List};
+ghost use Rattle.std.specs.Prelude.{◌≡◌, ◌-◌, ℕ, List, true};
 ghost use Rattle.module_code.specs.Program.{Program};
 ghost use Rattle.filter_chain.specs.HostViews.{HostView};
 
@@ -12,6 +12,7 @@ use run_model::{Refusal, Stepped};
 impl<F: Files + Drop, R: Rings<Stored> + Drop> Host<F, R> {
     ghost use Rattle.filter_chain.specs.Led.{IsAlive, Refines};
     ghost use Rattle.filter_chain.specs.Running.{StepsToEnd, StepsOn};
+    ghost use Rattle.filter_chain.specs.Bare.{AsksNothing, is_bare};
     ghost use Rattle.filter_chain.specs.Safe.{GoesWell, IsSafe};
 
     /// Makes a step, and up to `more` others while each goes on. The connection is looked up once.
@@ -19,6 +20,8 @@ impl<F: Files + Drop, R: Rings<Stored> + Drop> Host<F, R> {
         requires { IsAlive F.device self.old }
         ensures steps { Refines F.device self.old self.new (λ (b : ℕ) (c : List Program) (s t : HostView). StepsOn b c number more s result t) }
         ensures safe { IsSafe self.old → GoesWell result }
+        ensures unasked { is_bare self.old ≡ true → AsksNothing self.old self.new }
+        ensures bare { is_bare self.new ≡ is_bare self.old }
     {
         let chain = &self.chain;
         match self.conns.by_number.get_mut(&number) {
@@ -41,6 +44,8 @@ impl<F: Files + Drop, R: Rings<Stored> + Drop> Host<F, R> {
         requires { IsAlive F.device self.old }
         ensures steps { Refines F.device self.old self.new (λ (b : ℕ) (c : List Program) (s t : HostView). StepsOn b c number (most - 1) s result t) }
         ensures safe { IsSafe self.old → GoesWell result }
+        ensures unasked { is_bare self.old ≡ true → AsksNothing self.old self.new }
+        ensures bare { is_bare self.new ≡ is_bare self.old }
     {
         self.step_on(number, most.saturating_sub(1))
     }
@@ -51,6 +56,8 @@ impl<F: Files + Drop, R: Rings<Stored> + Drop> Host<F, R> {
         requires { IsAlive F.device self.old }
         ensures runs { Refines F.device self.old self.new (λ (b : ℕ) (c : List Program) (s t : HostView). StepsToEnd b c number s result t) }
         ensures safe { IsSafe self.old → GoesWell result }
+        ensures unasked { is_bare self.old ≡ true → AsksNothing self.old self.new }
+        ensures bare { is_bare self.new ≡ is_bare self.old }
     {
         let budget = self.budget();
         self.step_on(number, budget)

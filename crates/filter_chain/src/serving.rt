@@ -12,6 +12,7 @@ use run_model::{Piece, Refusal, Seq};
 
 impl<F: Files + Drop, R: Rings<Stored> + Drop> Host<F, R> {
     ghost use Rattle.filter_chain.specs.Hosting.{IsHosting, Happens, done_answer, files_of};
+    ghost use Rattle.filter_chain.specs.Bare.{is_bare};
 
     /// A request begins: its pool is made, and the `init` handlers of the filters are to be stepped. Refused, nothing is changed:
     /// `NoSuchConn`; `Broken`; `Busy`; `InRequest`; `NamesSpent`; `NoMemory`.
@@ -20,6 +21,7 @@ impl<F: Files + Drop, R: Rings<Stored> + Drop> Host<F, R> {
         ensures event { (w : World) → IsHosting (F.device (files_of self.old)) self.old w
             → Happens (F.device (files_of self.old)) (F.device (files_of self.new)) self.old self.new number Begin (done_answer (refusal_of result)) w }
         ensures files { files_of self.new ≡ files_of self.old }
+        ensures bare { is_bare self.new ≡ is_bare self.old }
     {
         let chain = &self.chain;
         match self.conns.by_number.get_mut(&number) {
@@ -35,6 +37,7 @@ impl<F: Files + Drop, R: Rings<Stored> + Drop> Host<F, R> {
         ensures event { (w : World) → IsHosting (F.device (files_of self.old)) self.old w
             → Happens (F.device (files_of self.old)) (F.device (files_of self.new)) self.old self.new number (Bring pieces) (done_answer (refusal_of result)) w }
         ensures files { files_of self.new ≡ files_of self.old }
+        ensures bare { is_bare self.new ≡ is_bare self.old }
     {
         let chain = &self.chain;
         match self.conns.by_number.get_mut(&number) {
@@ -48,6 +51,7 @@ impl<F: Files + Drop, R: Rings<Stored> + Drop> Host<F, R> {
         requires { (w : World) × IsHosting (F.device (files_of self.old)) self.old w }
         ensures event { (w : World) → IsHosting (F.device (files_of self.old)) self.old w
             → Happens (F.device (files_of self.old)) (F.device (files_of self.new)) self.old self.new number End (done_answer (refusal_of result)) w }
+        ensures bare { is_bare self.new ≡ is_bare self.old }
     {
         match self.conns.by_number.get_mut(&number) {
             None => Err(Refusal::NoSuchConn),

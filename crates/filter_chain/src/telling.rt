@@ -12,6 +12,7 @@ use run_model::Refusal;
 
 impl<F: Files + Drop, R: Rings<Stored> + Drop> Host<F, R> {
     ghost use Rattle.filter_chain.specs.Hosting.{IsHosting, Happens, output_answer, output_in, files_of};
+    ghost use Rattle.filter_chain.specs.Bare.{is_bare};
 
     /// The output since it was emptied last, as it lies, whatever state the connection is in. Refused: `NoSuchConn`.
     pub fn output(&self, number: u64) -> Result<&[u8], Refusal>
@@ -31,6 +32,7 @@ impl<F: Files + Drop, R: Rings<Stored> + Drop> Host<F, R> {
             → Happens (F.device (files_of self.old)) (F.device (files_of self.new)) self.old self.new number TakeOutput (output_answer (output_in (w.conns number))) w }
         ensures told { (w : World) → IsHosting (F.device (files_of self.old)) self.old w → refusal_of result ≡ refusal_of (output_in (w.conns number)) }
         ensures files { files_of self.new ≡ files_of self.old }
+        ensures bare { is_bare self.new ≡ is_bare self.old }
     {
         match self.conns.by_number.get_mut(&number) {
             None => Err(Refusal::NoSuchConn),
@@ -48,6 +50,7 @@ impl<F: Files + Drop, R: Rings<Stored> + Drop> Host<F, R> {
         ensures event { (w : World) → IsHosting (F.device (files_of self.old)) self.old w
             → Happens (F.device (files_of self.old)) (F.device (files_of self.new)) self.old self.new number TakeOutput (output_answer result) w }
         ensures files { files_of self.new ≡ files_of self.old }
+        ensures bare { is_bare self.new ≡ is_bare self.old }
     {
         match self.conns.by_number.get_mut(&number) {
             None => Err(Refusal::NoSuchConn),

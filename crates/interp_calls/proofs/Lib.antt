@@ -10,3 +10,4 @@ pub mod PassedOut
 pub mod Renamed
 pub mod LatePieces
 pub mod Spans
+pub mod RoomLeft

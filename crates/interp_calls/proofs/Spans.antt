@@ -9,6 +9,7 @@ use Rattle.bucket_kinds.specs.Reading.{MayGiveBytes, MayEnd}
 use Rattle.run_model.specs.declared.bucket.Content.TheVariants as content
 use Rattle.run_model.specs.Cutting.{read_limit}
 use Rattle.interp_calls.specs.Delivery.{ContentAdded, HasFront, SpanAdded, given_of}
+use Rattle.interp_calls.specs.Filled.{end_after}
 use Rattle.interp_calls.specs.declared.output.Fetched.{Fetched}
 use Rattle.interp_calls.specs.declared.output.Fetched.TheVariants as fetched
 use Rattle.interp_calls.proofs.Buffers.{behind, both_parts}
@@ -66,6 +67,11 @@ pub none_given : (f : Fetched) (bytes : List ℕ) → f ≢ fetched.All → give
 none_given fetched.All bytes never = absurd (never refl)
 none_given fetched.Ended bytes _ = refl
 none_given fetched.Failed bytes _ = refl
+
+pub end_stays : (f : Fetched) (end n : ℕ) → f ≢ fetched.All → end_after f end n ≡ end
+end_stays fetched.All end n never = absurd (never refl)
+end_stays fetched.Ended end n _ = refl
+end_stays fetched.Failed end n _ = refl
 
 module _ (d : Device) (file start len : ℕ) where
   module _ (now : Device) where

@@ -4,3 +4,4 @@ pub mod Handed
 pub mod NamedBelow
 pub mod Pieces
 pub mod Prelude
+pub mod Filled

@@ -8,9 +8,9 @@ pub use Rattle.run_model.specs.declared.bucket.Bucket.{Bucket}
 pub use Rattle.bucket_ring.specs.Kept.{NoneRevived}
 pub use Rattle.bucket_ring.specs.Lists.{list_at, upd}
 pub use Rattle.bucket_ring.specs.declared.names.BucketId.{BucketId}
-pub use Rattle.bucket_kinds.specs.Device.{SomeWentWell, counts, is_there}
+pub use Rattle.bucket_kinds.specs.Device.{counts, is_there}
 pub use Rattle.bucket_kinds.specs.Reading.{IsOpenFor}
-pub use Rattle.bucket_store.specs.Items.{named}
+pub use Rattle.bucket_store.specs.Items.{from_place, named}
 pub use Rattle.bucket_store.specs.Views.{content_of}
 pub use Rattle.brigade_ops.specs.Store.{brigade_of, bucket_at, lists, next_name, pool_of, references}
 pub use Rattle.interp_state.specs.ContextViews.{ContextView}
@@ -23,5 +23,6 @@ pub use Rattle.interp_state.specs.Seen.{calls_in, seen, shown, shown_slot}
 pub use Rattle.interp_state.specs.Slots.{SameButSlots, cursor_at, live_in, marked, name_in, slot_at}
 pub use Rattle.interp_state.specs.declared.machine.Call.{Call}
 pub use Rattle.interp_calls.specs.Begun.{begun_as}
-pub use Rattle.interp_calls.specs.Delivery.{ContentAdded, HasFront, IsFetched, ItemsAdded, WasDelivered, out_of}
+pub use Rattle.interp_calls.specs.Delivery.{ContentAdded, HasFront, IsFetched, ItemsAdded, SpanAdded, WasDelivered, out_of}
+pub use Rattle.interp_calls.specs.Filled.{HasRoomFor, bytes_before_eos, end_after, reads, text}
 pub use Rattle.interp_calls.specs.Handed.{lent}

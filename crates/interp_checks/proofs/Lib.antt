@@ -9,3 +9,4 @@ pub mod TraceSteps
 pub mod TraceWalks
 pub mod States
 pub mod StateWalks
+pub mod EachView

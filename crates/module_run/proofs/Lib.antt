@@ -66,6 +66,7 @@ pub mod StackedBack
 pub mod StepFiles
 pub mod TopFilter
 pub mod Tops
+pub mod PoolsListed
 pub mod Unchanged
 pub mod Unreferred
 pub mod Untouched

@@ -3,7 +3,7 @@
 ghost use Rattle.std.specs.Prelude.{◌≡◌, ◌&&◌, not, false, true, if◌then◌else◌, ℕ, List, None, Some, OnOk, OnErr};
 ghost use Rattle.std.specs.List.{list_any};
 ghost use Rattle.module_run.specs.Prelude.{Missing, NoneRevived, upd, Program, Linked, is_referred, refers, is_file_ref, Pools, destroyed, is_under, run_order, closing_labels, map_of, SameButOpen};
-ghost use Rattle.module_run.specs.Prelude.{AreOpen, IsHouse, lists, brigade_of, pool_of, references, next_name, filter_at, labels_handed, Stands, HoldsName, LeavesOthers, LeftAs, StandsFor, named_at};
+ghost use Rattle.module_run.specs.Prelude.{AreOpen, IsHouse, lists, brigade_of, pool_of, references, next_name, filter_at, labels_handed, Stands, HoldsName, LeavesOthers, LeftAs, StandsFor, named_at, IsFreed};
 ghost use Rattle.module_run.specs.declared.conn.Filter.{Filter};
 
 use crate::conn::{Conn, Filter};
@@ -123,6 +123,7 @@ impl Conn {
         ensures err { OnErr result ((chain : List Program) (v : Linked) → LeftAs chain tree.old store.old (F.device files.old) self.old v
             → LeftAs chain tree.new store.new (F.device files.new) self.new v) }
         ensures unread { OnErr result (F.device files.new ≡ F.device files.old) }
+        ensures freed { OnOk result ((p : ℕ) → is_under (map_of tree.old) self.old.conn p ≡ true → IsFreed store.new p) }
     {
         let mut pools = tree.pools_under(self.conn)?;
         pools.push(self.conn)?;

@@ -1,7 +1,7 @@
 //! The last filter passes a brigade to the end of the chain.
 
 ghost use Rattle.std.specs.Prelude.{◌≡◌, ◌<◌, ◌+◌, List, true, false, if◌then◌else◌, IsOk, OnOk, OnErr};
-ghost use Rattle.module_run.specs.Prelude.{Program, SomeWentWell, Payload, Pools, Frame, Linked, configuration, is_last, grows, PoolTree, top_of, EndsLoose, LeavesOthers, CanProceed, IsReady};
+ghost use Rattle.module_run.specs.Prelude.{Program, Payload, Pools, Frame, Linked, configuration, is_last, grows, PoolTree, top_of, EndsLoose, LeavesOthers, CanProceed, IsReady};
 ghost use Rattle.module_run.specs.Prelude.{RefinesStep, LeftAs};
 
 use crate::conn::Conn;
@@ -13,7 +13,7 @@ use std::alloc::AllocError;
 impl Conn {
     /// The last filter passes the brigade of a variable to the end of the chain. It goes on behind the pass, or at the target of the pass
     /// where not all went well. Only bytes that are put out take memory. Without it nothing is
-    /// changed; parts may have been read.
+    /// changed, and nothing was read.
     pub(crate) fn pass_to_output<R: Rings<Stored> + Drop, F: Files>(
         &mut self,
         store: &mut Brigades<R>,
@@ -30,7 +30,7 @@ impl Conn {
         ensures sure { (chain : List Program) (tree : PoolTree Payload) (v : Linked) (f : Frame) (rest : List Frame)
             → IsReady chain (Instr.Pass b target) tree store.old (F.device files.old) self.old v f rest
             → grows (configuration v.0 v.1 f) (Instr.Pass b target) ≡ false → IsOk result }
-        ensures lacked { OnErr result (SomeWentWell (F.device files.old) (F.device files.new)) }
+        ensures unread { OnErr result (F.device files.new ≡ F.device files.old) }
         ensures leaves { (ps : Pools Payload) → LeavesOthers ps store.old store.new self.old self.new }
         ensures ended { EndsLoose store.old store.new self.old self.new }
         ensures count { self.new.count ≡ self.old.count }

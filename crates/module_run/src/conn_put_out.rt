@@ -1,7 +1,7 @@
 //! The output filter takes a brigade that was brought where all other filters have left.
 
 ghost use Rattle.std.specs.Prelude.{◌≡◌, ℕ, List, true, false, length, IfOk, IsOk, OnErr};
-ghost use Rattle.module_run.specs.Prelude.{Program, SomeWentWell, Pools, Frame, Linked, answered_so, puts_out, top_of, EndsLoose, LeavesOthers, CanProceed, IsReady, RefinesStep, LeftAs};
+ghost use Rattle.module_run.specs.Prelude.{Program, Pools, Frame, Linked, answered_so, puts_out, top_of, EndsLoose, LeavesOthers, CanProceed, IsReady, RefinesStep, LeftAs};
 
 use crate::conn::Conn;
 use brigade_ops::{Brigades, Files, PoolTree, Rings, Stored};
@@ -22,8 +22,8 @@ fn answered(well: bool, stepped: Stepped) -> Stepped
 
 impl Conn {
     /// The call of the output filter, which is on top, puts out the bytes of the brigade that was brought, and ends; it fails where a read
-    /// failed, and what was read before it is in the output. Only bytes that are put out take memory. Without it nothing is changed; parts
-    /// may have been read.
+    /// failed, and what was read before it is in the output. Only bytes that are put out take memory. Without it nothing is changed, and
+    /// nothing was read.
     pub(crate) fn put_out<R: Rings<Stored> + Drop, F: Files>(
         &mut self,
         modules: &[Module],
@@ -41,7 +41,7 @@ impl Conn {
         ensures sure { (tree : PoolTree Payload) (v : Linked) (f : Frame) (rest : List Frame)
             → IsReady modules.now (Instr.Ret status) tree store.old (F.device files.old) self.old v f rest
             → puts_out modules.now f v ≡ false → IsOk result }
-        ensures lacked { OnErr result (SomeWentWell (F.device files.old) (F.device files.new)) }
+        ensures unread { OnErr result (F.device files.new ≡ F.device files.old) }
         ensures leaves { (ps : Pools Payload) → LeavesOthers ps store.old store.new self.old self.new }
         ensures ended { EndsLoose store.old store.new self.old self.new }
         ensures count { self.new.count ≡ self.old.count }

@@ -1,5 +1,5 @@
 -- Files in memory are known.
-use Rattle.std.proofs.Common.{◌≡◌, ◌≢◌, ℕ, List, Option, Some, None, ap}
+use Rattle.std.proofs.Common.{◌≢◌, ℕ, List, Option, Some, None, ap}
 use Rattle.bucket_kinds.specs.Device.{Untold}
 use Rattle.bucket_kinds.specs.MemDevice.{held_of, plan_of}
 use Rattle.run_laws.specs.KnownFiles.{FilesInMemoryAreKnown}

@@ -28,12 +28,12 @@ use Rattle.run_model.specs.Passing.{Reads, proceeds}
 use Rattle.run_model.specs.Turns.{broken_by, counted, ends, executed, step_top, step_unless, steps, unless_fault, watched}
 use Rattle.run_model.specs.Worlds.{World, Told, Answer, Done, Step, answered, closes, happens_on, step_answered}
 use Rattle.run_model.proofs.Updates.{upd_at, upd_either}
-use Rattle.bucket_kinds.specs.Device.{Held, Missing, Untold, Holds, Device, AllWentWell, HasFailed, SomeWentWell, WasAsked, WentWell, moved, opened, closed}
+use Rattle.bucket_kinds.specs.Device.{Held, Missing, Untold, Holds, Device, HasFailed, WasAsked, WentWell, moved, opened, closed}
 use Rattle.interp_state.specs.Given.{MayGive}
 use Rattle.interp_calls.specs.Delivery.{IfElse, PartGiven, PartsGiven, ContentGiven, ReadsGiven}
 use Rattle.interp_exec.specs.CarriedOut.{ClosedWith, WereLetGo}
 use Rattle.module_run.specs.Proceeding.{TellsReads, TellsClear}
-use Rattle.module_run.specs.Stepping.{ClearsAtTop, ClosesStep, LackedAtTop, LackedIn, TellsAtTop, TellsStep}
+use Rattle.module_run.specs.Stepping.{ClearsAtTop, ClosesStep, TellsAtTop, TellsStep}
 use Rattle.module_run.specs.OpenedFile.{IsAfterOpening}
 use Rattle.filter_chain.specs.HostViews.{HostView, ClosesFiles, HasAdded, StepTellsReads, TellsEvent, refusal_in}
 use Rattle.run_laws.specs.KnownFiles.{AreFilesKnown}
@@ -54,11 +54,6 @@ failed_told d e told failed = absurd (never_fails d told failed.0)
 asked_told : (n : ℕ) (d e : Device) → AreFilesKnown d → WasAsked n d e → AreFilesKnown e
 asked_told zero d e told is = same_told d e told is
 asked_told (suc n) d e told went = went_told d e told went
-
-some_told : (n : ℕ) (d e : Device) → AreFilesKnown d → AllWentWell n d e → AreFilesKnown e
-unfolding AllWentWell
-some_told zero d e told is = same_told d e told is
-some_told (suc n) d e told went = some_told n (moved d) e (moved_told d told) went.1
 
 -- After the reads of an instruction.
 
@@ -128,29 +123,12 @@ instr_told d e told chain (instr.PClear n) f v w reads x p = closed_told d e tol
 instr_told d e told chain (instr.PDestroy n) f v w reads x p = closed_told d e told _ _ _ p
 instr_told d e told chain i f v w reads x p = same_told d e told x
 
--- where memory was refused to it
-some_or : (b : Bool) (d e : Device) → AreFilesKnown d → IfElse b (SomeWentWell d e) (e ≡ d) → AreFilesKnown e
-some_or true d e told (n, went) = some_told n d e told went
-some_or false d e told is = same_told d e told is
-
-lacked_told : (d e : Device) → AreFilesKnown d → (chain : List Program) (i : Instr) (f : Frame) (c : Connection) → LackedIn d e chain i f c → AreFilesKnown e
-lacked_told d e told chain (instr.Pass b l) f c x = some_or (is_last chain c f.of) d e told x
-lacked_told d e told chain (instr.Ret s) f c x = some_or (is_output chain f.of) d e told x
-lacked_told d e told chain i f c x = same_told d e told x
-
-top_lacked_told : (d e : Device) → AreFilesKnown d → (chain : List Program) (c : Connection) (o : Option Cause) (fs : List Frame) → LackedAtTop d e chain c o fs → AreFilesKnown e
-unfolding LackedAtTop
-top_lacked_told d e told chain c (Some k) fs x = same_told d e told x
-top_lacked_told d e told chain c None [] x = same_told d e told x
-top_lacked_told d e told chain c None (f ∷ rest) x = lacked_told d e told chain _ f c x
-
 -- After a step.
 module _ (d e : Device) (told : AreFilesKnown d) (budget : ℕ) (chain : List Program) (reads : Reads) (v : Linked) where
   abbrev KeepsTold : Result Stepped Refusal × Linked → Type 0
   KeepsTold x = (w : Linked) → TellsStep d e chain x.0 v reads → ClosesStep d e chain x.0 v w → AreFilesKnown e
 
   refused_stays : (r : Refusal) (w z : Linked) → TellsStep d e chain (Err r) v reads → AreFilesKnown e
-  refused_stays (refusal.Broken cause.NoMemory) w z x = top_lacked_told d e told chain v.1 v.1.broken v.1.stack x
   refused_stays r w z x = same_told d e told x
 
   at_top : (f : Frame) (rest : List Frame) → v.1.stack ≡ f ∷ rest → (i : Instr) → i ≡ current (module_at chain f.of) f.pc

@@ -27,7 +27,7 @@ use Rattle.bucket_kinds.specs.Device.{Held, Device}
 use Rattle.interp_exec.specs.CarriedOut.{ClosedWith, WereLetGo}
 use Rattle.interp_calls.specs.Delivery.{IfElse, ReadsGiven}
 use Rattle.module_run.specs.Proceeding.{TellsReads, TellsClear}
-use Rattle.module_run.specs.Stepping.{ClearsAtTop, ClosesStep, LackedAtTop, TellsAtTop, TellsStep}
+use Rattle.module_run.specs.Stepping.{ClearsAtTop, ClosesStep, TellsAtTop, TellsStep}
 use Rattle.run_laws.specs.KnownFiles.{AreFilesKnown}
 use Rattle.run_laws.proofs.DeviceReads.{delivered_once, given_once}
 
@@ -194,11 +194,7 @@ module _ (d e h : Device) (told : AreFilesKnown d) (budget : ℕ) (chain : List 
 
   -- A broken connection reads nothing.
   still : (k : Cause) → v.1.broken ≡ Some k → (g : Device) (given : Reads) → TellsStep d g chain (Err (refusal.Broken k)) v given → g ≡ d
-  unfolding LackedAtTop
-  still cause.NoMemory is g given x = subst (λ (o : Option Cause). LackedAtTop d g chain v.1 o v.1.stack) is x
-  still cause.Faulted is g given x = x
-  still cause.NamesSpent is g given x = x
-  still cause.OutOfSteps is g given x = x
+  still k is g given x = x
 
   by_cause : (o : Option Cause) → v.1.broken ≡ o → SameStep (step_unless o true budget chain reads v) (step_unless o true budget chain others v)
   by_cause (Some k) is x y = (refl, λ w p q. still k is e reads x ∙ sym (still k is h others y))

@@ -20,7 +20,7 @@ returns-clause-ok g c =
     let t = c.in-Ok.ensures.added in
     let open_to : c.args.ended.now ≡ false = search rules in
     was_delivered (g.F.Files.device c.args.files.now) (g.F.Files.device c.add_all.new.files) runs
-    (list_at (lists c.args.store.now) c.args.b) c.in-Ok.met.whole t.added c.args.out.now c.add_all.new.out c.args.ended.now c.ends.result open_to t.taken_so t.grown
+    (list_at (lists c.args.store.now) c.args.b) c.in-Ok.met.whole t.added c.args.out.now c.add_all.new.self c.args.ended.now c.ends.result open_to t.taken_so t.grown
     (c.ends.ensures runs)
 
 pub returns-in_default-clause-sure : goal.returns-in_default-clause-sure

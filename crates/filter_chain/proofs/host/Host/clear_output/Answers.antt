@@ -17,6 +17,7 @@ returns-in-None g c =
       event = none_cleared g.F.Files.device host c.args.number _ c.get_mut.follows.holds-at-none none;
       told = λ w hosts. sym (ap (λ (r : Result (List ℕ) Refusal). refusal_of r) (output_missing (g.F.Files.device host.files) host c.args.number w hosts none));
       files = refl;
+      bare = refl;
     }
 
 pub returns-in-Some : goal.returns-in-Some
@@ -30,4 +31,5 @@ returns-in-Some g c =
           (record { shows = out.cleared; stacked = out.stacked; filters = out.filters }) w hosts (w.conns c.args.number) refl;
       told = λ w hosts. some_told (g.F.Files.device host.files) host c.args.number w hosts c.in-Some.conn.now (found_at c.in-Some.is c.get_mut.ensures.value);
       files = refl;
+      bare = refl;
     }

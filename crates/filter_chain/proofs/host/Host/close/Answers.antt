@@ -26,7 +26,7 @@ pub returns-in_default : goal.returns-in_default
 unfolding conn_at
 returns-in_default g c =
     let none = none_found g.F.Files.device c.args.self.now c.args.number _ c.get_mut.follows.holds-at-none (nothing_at c.in_default.is c.get_mut.ensures.value) event.Close tt in
-    record { event = none }
+    record { event = none; bare = refl }
 
 pub returns-in_default-close : goal.returns-in_default-close
 unfolding conn_at chain_of budget_of
@@ -39,6 +39,7 @@ returns-in_default-close g c = record {
       (lent_by c.get_mut.follows.lender c.in-Some.is c.get_mut.ensures.value (λ x there. ((c.get_mut.follows.holds x).3 there).0)) w hosts event.Close (Refused refusal.NoMemory)
       (record { conn = new.self; tree = new.tree; store = new.store; files = new.files }) out.leaves
       (λ k s so given. close_serves s given (not.err (chain_of c.args.self.now) _ so.left) (closed_spares so out.others out.unreferred) not.unread);
+  bare = refl;
 }
 
 pub unreachable-requires : goal.unreachable-requires
@@ -74,4 +75,5 @@ returns g c = record {
         closed = ok.closed;
         others = out.others;
       });
+  bare = refl;
 }

@@ -20,7 +20,7 @@ pub returns-in-None : goal.returns-in-None
 unfolding conn_at
 returns-in-None g c =
     let none = none_found g.F.Files.device c.args.self.now c.args.number _ c.get_mut.follows.holds-at-none (nothing_at c.in-None.is c.get_mut.ensures.value) event.End tt in
-    record { event = none }
+    record { event = none; bare = refl }
 
 pub returns-in-Some : goal.returns-in-Some
 unfolding conn_at chain_of budget_of
@@ -32,4 +32,5 @@ returns-in-Some g c = record {
       (lent_by c.get_mut.follows.lender c.in-Some.is c.get_mut.ensures.value (λ x there. ((c.get_mut.follows.holds x).3 there).0)) w hosts event.End (done_answer (refusal_of c.end_request.result))
       (record { conn = new.self; tree = new.tree; store = new.store; files = new.files }) out.leaves
       (λ k s so given. ended_serves s so given c.end_request.result (out.ends (chain_of c.args.self.now) _ so) out.closed out.unread out.others out.unreferred);
+  bare = refl;
 }

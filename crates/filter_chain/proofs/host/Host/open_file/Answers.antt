@@ -19,7 +19,7 @@ pub returns-in-None : goal.returns-in-None
 unfolding conn_at
 returns-in-None g c =
     let none = none_found g.F.Files.device c.args.self.now c.args.number _ c.get_mut.follows.holds-at-none (nothing_at c.in-None.is c.get_mut.ensures.value) (event.OpenFile c.args.name.now) tt in
-    record { event = none }
+    record { event = none; bare = refl }
 
 pub returns-in-Some : goal.returns-in-Some
 unfolding conn_at chain_of budget_of
@@ -31,4 +31,5 @@ returns-in-Some g c = record {
       (file_answer c.open_file.result)
       (record { conn = new.self; tree = new.tree; store = new.store; files = new.files }) c.open_file.ensures.leaves
       (λ k s so given. opens_serves s (c.open_file.ensures.opened (chain_of c.args.self.now) _ so given));
+  bare = refl;
 }

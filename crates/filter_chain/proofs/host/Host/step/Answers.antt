@@ -1,4 +1,5 @@
 -- By the connection of the number, as it was found and as it is put back.
+use Rattle.std.proofs.Common.{refl}
 use Rattle.run_model.specs.declared.event.Event.TheVariants as event
 use Rattle.filter_chain.specs.Hosted.{conn_at}
 use Rattle.filter_chain.specs.Hosting.{chain_of, budget_of}
@@ -29,4 +30,12 @@ returns-in-Some g c =
     (lent_by c.get_mut.follows.lender c.in-Some.is c.get_mut.ensures.value (λ x there. ((c.get_mut.follows.holds x).3 there).0)) c.as_slice.ensures.value
     (record { conn = new.self; tree = new.tree; store = new.store; files = new.files }) c.step.result
     (record { step = λ v can. out.steps v can.stands can.faultless; leaves = out.leaves; ended = out.ended }) in
-    record { event = event; safe = λ safe. happens_well _ _ _ _ _ _ _ _ c.requires.1 safe (event c.requires.0 c.requires.1) }
+    record {
+      event = event;
+      safe = λ safe. happens_well _ _ _ _ _ _ _ _ c.requires.1 safe (event c.requires.0 c.requires.1);
+      unasked = λ is. record { store = out.unasked is; tree = out.tree_unasked is };
+      bare = refl;
+    }
+
+pub returns-in-None-clause-unasked : goal.returns-in-None-clause-unasked
+returns-in-None-clause-unasked g c is = record { store = refl; tree = refl }

@@ -1,9 +1,11 @@
 -- What is given up in the end changes nothing that is seen.
 use Rattle.std.proofs.Common.{ℕ, is_some, refl, sym, ap, subst, ◌∙◌, rules}
 use Rattle.std.proofs.lemmas.Result.{err_from_is_err_and}
+use Rattle.run_model.specs.Pools.{is_in}
 use Rattle.pool_tree.specs.Tree.{map_of}
 use Rattle.brigade_ops.specs.House.{AreOpen}
 use Rattle.brigade_ops.proofs.HouseCalls.{house_still}
+use Rattle.module_run.proofs.PoolsListed.{all_listed}
 use Rattle.module_run.proofs.Neighbours.{then_same, unmoved}
 use Rattle.module_run.proofs.RequestBegins.{conn_live}
 use Rattle.module_run.proofs.Unreferred.{same_device}
@@ -51,3 +53,11 @@ pub returns-in_err-destroy_all : goal.returns-in_err-destroy_all
 returns-in_err-destroy_all g c =
     let p = err_from_is_err_and c.from_residual-in_err-destroy_all.result c.from_residual-in_err-destroy_all.ensures.1 in
     rw p.1 (search rules)
+
+pub returns-clause-freed : goal.returns-clause-freed
+returns-clause-freed g c p under =
+    let s = c.requires.stands in
+    let live = conn_live s.0 c.args.tree.now c.args.store.now (g.F.Files.device c.args.files.now) c.args.self.now s.1.linked s.1.so in
+    let found = c.in_ok-pools.pools.items in
+    let listed = all_listed c.args.tree.now c.args.self.now.conn found live c.in_ok-pools.ensures p under in
+    c.give_up.ensures.freed p (ap (is_in p) (c.as_slice.ensures.value ∙ c.in_ok-push.ensures.items) ∙ listed)

@@ -1,16 +1,14 @@
-use Rattle.std.proofs.Common.{◌≡◌, ◌∙◌, List, true, refl, sym, ap, subst}
+use Rattle.std.proofs.Common.{◌∙◌, refl, sym, ap, subst}
 use Rattle.std.proofs.lemmas.Result.{IfOk-weaker, err_from_is_err_and}
 use Rattle.module_code.specs.declared.instr.Instr.{Instr}
-use Rattle.run_model.specs.Chains.{Frame, Linked, configuration, is_last, is_output}
+use Rattle.run_model.specs.Chains.{configuration, is_last}
 use Rattle.run_model.specs.Steps.{grows}
 use Rattle.run_model.specs.Turns.{calls_of}
 use Rattle.pool_tree.specs.Tree.{map_of}
 use Rattle.module_run.specs.Proceeding.{IsReady}
 use Rattle.module_run.proofs.CanPass.{last_there, not_last, passer_at}
-use Rattle.module_run.specs.Stepping.{LackedIn}
-use Rattle.module_run.proofs.Executing.{lacked_last, lacked_out, lacked_same, on_err_to, passes_on}
+use Rattle.module_run.proofs.Executing.{on_err_to, passes_on}
 use Rattle.module_run.proofs.HandsOnBuilt.{on_err}
-use Rattle.module_run.proofs.TopFilter.{at_output}
 use Rattle.module_run.proofs.conn.Conn.execute_at_top.Goals as goal
 
 pub pass_to_next-requires-clause-ready : goal.pass_to_next-requires-clause-ready
@@ -48,7 +46,7 @@ returns-in_err-pass_to_next-in-Pass g c =
     rw p.1 (record {
       ok = tt;
       err = λ v f rest ready. e.err c.args.tree.now d v ready.stands.left;
-      lacked = λ v f rest ready. lacked_same d d c.args.modules.now c.args.instr f v.1 refl;
+      unread = refl;
       sure = λ v f rest ready quiet none unput.
           let passes = subst (λ (i : Instr). IsReady c.args.modules.now i c.args.tree.now c.args.store.now d c.args.self.now v f rest) c.in-Pass.is ready in
           absurd (passes_on (is_last c.args.modules.now v.1 f.of)
@@ -70,11 +68,7 @@ returns-in_err-pass_to_output-in-Pass g c =
     rw p.1 (record {
       ok = tt;
       err = λ v f rest ready. e.err chain c.args.tree.now v ready.stands.left;
-      lacked = λ v f rest ready.
-          let passes = subst (λ (i : Instr). IsReady chain i c.args.tree.now c.args.store.now d c.args.self.now v f rest) c.in-Pass.is ready in
-          let last = last_there chain c.in-Pass.b c.in-Pass.l c.args.tree.now c.args.store.now d c.args.self.now v f rest passes c.next_place-to.result c.next_place-to.ensures c.if-to-modules.false in
-          let now = g.F.Files.device c.pass_to_output.new.files in
-          subst (λ (i : Instr). LackedIn d now chain i f v.1) (sym c.in-Pass.is) (lacked_last d now chain c.in-Pass.b c.in-Pass.l f v.1 last e.lacked);
+      unread = e.unread;
       sure = λ v f rest ready quiet none unput.
           e.sure chain c.args.tree.now v f rest (subst (λ (i : Instr). IsReady chain i c.args.tree.now c.args.store.now d c.args.self.now v f rest) c.in-Pass.is ready)
           (sym (ap (λ (i : Instr). grows (configuration v.0 v.1 f) i) c.in-Pass.is) ∙ quiet);
@@ -92,7 +86,7 @@ returns-in_err-execute_in_call-in_default g c =
     rw p.1 (record {
       ok = tt;
       err = λ v f rest ready. e.err v ready.stands.left;
-      lacked = λ v f rest ready. lacked_same (g.F.Files.device c.args.files.now) (g.F.Files.device c.execute_in_call.new.files) c.args.modules.now c.args.instr f v.1 e.unread;
+      unread = e.unread;
       sure = λ v f rest ready quiet none unput. e.sure v f rest ready quiet;
       leaves = e.leaves;
       ended = e.ended;
@@ -120,14 +114,10 @@ returns-then-top-modules g c =
     let e = c.put_out.ensures in
     let chain = c.args.modules.now in
     let d = g.F.Files.device c.args.files.now in
-    let now = g.F.Files.device c.put_out.new.files in
-    let out : (v : Linked) (f : Frame) (rest : List Frame) → IsReady chain c.args.instr c.args.tree.now c.args.store.now d c.args.self.now v f rest → is_output chain f.of ≡ true =
-    λ v f rest ready. at_output chain c.args.instr c.args.tree.now c.args.store.now d c.args.self.now v f rest ready (sym c.top.ensures ∙ c.if-top-modules.true) in
     record {
       ok = rw c.in-Ret.is (IfOk-weaker c.put_out.result _ _ (λ answer same. same c.args.tree.now) e.ok);
       err = on_err_to c.put_out.result (λ same v f rest ready. same c.args.tree.now v ready.stands.left) e.err;
-      lacked = on_err_to c.put_out.result (λ some v f rest ready.
-          subst (λ (i : Instr). LackedIn d now chain i f v.1) (sym c.in-Ret.is) (lacked_out d now chain c.in-Ret.status f v.1 (out v f rest ready) some)) e.lacked;
+      unread = e.unread;
       sure = rw c.in-Ret.is (λ v f rest ready quiet none unput. e.sure c.args.tree.now v f rest ready unput);
       leaves = e.leaves (map_of c.args.tree.now);
       ended = e.ended;
@@ -143,7 +133,7 @@ returns-else-top-modules g c =
     record {
       ok = rw c.in-Ret.is (IfOk-weaker c.return_from.result _ _ (λ answer same. same c.args.tree.now d) e.leads);
       err = on_err_to c.return_from.result (λ same v f rest ready. same c.args.tree.now d v ready.stands.left) e.err;
-      lacked = on_err c.return_from.result (λ v f rest ready. lacked_same d d c.args.modules.now c.args.instr f v.1 refl);
+      unread = on_err c.return_from.result refl;
       sure = rw c.in-Ret.is (λ v f rest ready quiet none unput. e.sure c.args.tree.now d v f rest ready none);
       leaves = e.leaves (map_of c.args.tree.now);
       ended = e.ended;
