@@ -47,7 +47,7 @@ impl<'a> Changes<'a> {
 }
 
 impl<'a, 's> Resolver<'a, 's> {
-    /// AddsText the names that a block sets, and the `def`s that it runs add theirs, each once.
+    /// Adds the names that a block sets, and the `def`s that it runs add theirs, each once.
     #[cycle(sets)]
     fn add_set(&self, changes: &mut Changes<'a>, body: &[source::Stmt<'a>], depth: usize) {
         if depth == 0 {
@@ -70,7 +70,7 @@ impl<'a, 's> Resolver<'a, 's> {
         }
     }
 
-    /// AddsText what the `def` of this name sets, unless it was seen.
+    /// Adds what the `def` of this name sets, unless it was seen.
     #[cycle(sets)]
     fn add_run(&self, changes: &mut Changes<'a>, name: Name<'a>, depth: usize) {
         if depth == 0 {

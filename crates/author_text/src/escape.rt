@@ -1,6 +1,7 @@
 //! The bytes of what stands in quotes.
 
-ghost use Rattle.std.specs.Prelude.{◌≡◌, ℕ, ◌<◌, Some};
+ghost use Rattle.std.specs.Prelude.{◌≡◌, ℕ, ◌<◌, ◌++◌, Some, IfOk, take, drop};
+ghost use Rattle.author_text.specs.Escapes.{escaped, front_spelled, hex_byte, hex_value, spelled_bytes};
 
 use std::alloc::AllocError;
 
@@ -16,7 +17,8 @@ pub enum Spelled {
 }
 
 fn hex_digit(byte: u8) -> Option<u8>
-    ensures { (d : ℕ) → result ≡ Some d → d < 16 }
+    ensures value { result ≡ hex_value byte }
+    ensures small { (d : ℕ) → result ≡ Some d → d < 16 }
 {
     match byte {
         b'0'..=b'9' => Some(byte - b'0'),
@@ -27,7 +29,9 @@ fn hex_digit(byte: u8) -> Option<u8>
 }
 
 /// Two hexadecimal digits.
-fn hex_byte(digits: &[u8]) -> Option<u8> {
+fn hex_byte(digits: &[u8]) -> Option<u8>
+    ensures { result ≡ hex_byte digits.now }
+{
     match digits {
         [high, low, ..] => Some(16 * hex_digit(*high)? + hex_digit(*low)?),
         _ => None,
@@ -35,7 +39,9 @@ fn hex_byte(digits: &[u8]) -> Option<u8> {
 }
 
 /// The byte that stands for another behind a backslash.
-fn escaped(letter: u8) -> Option<u8> {
+fn escaped(letter: u8) -> Option<u8>
+    ensures { result ≡ escaped letter }
+{
     match letter {
         b'n' => Some(b'\n'),
         b'r' => Some(b'\r'),
@@ -47,7 +53,9 @@ fn escaped(letter: u8) -> Option<u8> {
 }
 
 /// What the front of a text spells.
-pub fn front_of(text: &[u8]) -> Spelled {
+pub fn front_of(text: &[u8]) -> Spelled
+    ensures { result ≡ front_spelled text.now }
+{
     match text {
         [] | [b'\\'] => Spelled::Nothing,
         [b'\\', b'x', digits @ ..] => match hex_byte(digits) {
@@ -66,7 +74,9 @@ pub fn front_of(text: &[u8]) -> Spelled {
 }
 
 /// What stands behind the first bytes, or nothing where there are fewer.
-pub fn after(text: &[u8], count: usize) -> &[u8] {
+pub fn after(text: &[u8], count: usize) -> &[u8]
+    ensures { result.now ≡ drop count text.now }
+{
     if count <= text.len() {
         &text[count..]
     } else {
@@ -75,17 +85,25 @@ pub fn after(text: &[u8], count: usize) -> &[u8] {
 }
 
 /// The first bytes of a text, or all of it where there are fewer.
-pub fn front(text: &[u8], count: usize) -> &[u8] {
+pub fn front(text: &[u8], count: usize) -> &[u8]
+    ensures { result.now ≡ take count text.now }
+{
     &text[..count.min(text.len())]
 }
 
-/// AddsText the bytes of what stood in quotes.
-pub fn push_bytes(bytes: &mut Vec<u8>, text: &[u8]) -> Result<(), AllocError> {
+/// Adds the bytes that a text in quotes spells.
+#[tactic(auto, using(crate::proofs::PushLaws::spelled_byte, crate::proofs::PushLaws::spelled_none))]
+pub fn push_bytes(bytes: &mut Vec<u8>, text: &[u8]) -> Result<(), AllocError>
+    ensures { IfOk result (λ u. bytes.new.items ≡ bytes.old.items ++ spelled_bytes 0 text.now) }
+{
     let mut rest = text;
     for _ in 0..text.len() {
-        if let Spelled::Byte { byte, len } = front_of(rest) {
-            bytes.push(byte)?;
-            rest = after(rest, len);
+        match front_of(rest) {
+            Spelled::Byte { byte, len } => {
+                bytes.push(byte)?;
+                rest = after(rest, len);
+            }
+            Spelled::NoEscape(_) | Spelled::Nothing => break,
         }
     }
     Ok(())

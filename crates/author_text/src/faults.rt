@@ -1,5 +1,8 @@
 //! What is wrong with a text first.
 
+ghost use Rattle.std.specs.Prelude.{◌≡◌, ◌⊎◌, ◌∷◌, [], ◌++◌, IsTrue, IsSome, MatchOption, MatchResult, is_some, true, not, ◌||◌};
+ghost use Rattle.author_text.specs.Reading.{IsOut, Keeps, fault_of};
+
 use crate::place::Place;
 use crate::refusal::Refusal;
 use std::alloc::{AllocError, Global};
@@ -9,9 +12,11 @@ use std::alloc::{AllocError, Global};
 pub struct Faults {
     alloc: Global,
     first: Option<Refusal>,
+    /// Whether there was memory for all that was made.
+    is_whole: bool,
 }
 
-/// AddsText the bytes of a word of the text, which are all below 0x7F.
+/// Adds the bytes of a word of the text, which are all below 0x7F.
 fn push_word(what: &mut String, word: &[u8]) -> Result<(), AllocError> {
     for byte in word {
         what.push(char::from(*byte))?;
@@ -30,7 +35,7 @@ fn joined(alloc: Global, before: &[&str], word: &[u8], after: &str) -> Result<St
     Ok(what)
 }
 
-/// AddsText the line from which a `def` runs, unless one is there.
+/// Adds the line from which a `def` runs, unless one is there.
 fn add_def(alloc: Global, what: &mut String, line: usize) -> Result<(), AllocError> {
     if what.as_str().ends_with(")") {
         return Ok(());
@@ -41,27 +46,57 @@ fn add_def(alloc: Global, what: &mut String, line: usize) -> Result<(), AllocErr
 
 impl Faults {
     /// No fault.
-    pub fn new(alloc: Global) -> Faults {
-        Faults { alloc, first: None }
-    }
-
-    /// Whether a fault was found.
-    pub fn is_any(&self) -> bool {
-        self.first.is_some()
-    }
-
-    /// There was no memory.
-    pub fn no_memory(&mut self) {
-        if self.first.is_none() {
-            self.first = Some(Refusal::NoMemory);
+    #[tactic(auto, unfolding(crate::specs::Reading::fault_of))]
+    pub fn new(alloc: Global) -> Faults
+        ensures first { result.first ≡ None }
+        ensures whole { IsTrue result.is_whole }
+        ensures fault { fault_of result ≡ None }
+    {
+        Faults {
+            alloc,
+            first: None,
+            is_whole: true,
         }
     }
 
+    /// Whether a fault was found.
+    #[tactic(auto, unfolding(crate::specs::Reading::fault_of))]
+    pub fn is_any(&self) -> bool
+        ensures any { result ≡ is_some self.now.first || not self.now.is_whole }
+        ensures fault { result ≡ is_some (fault_of self.now) }
+    {
+        self.first.is_some() || !self.is_whole
+    }
+
+    /// Whether there was memory for all that was made.
+    pub fn is_whole(&self) -> bool
+        ensures { result ≡ self.now.is_whole }
+    {
+        self.is_whole
+    }
+
+    /// There was no memory.
+    #[tactic(auto, unfolding(crate::specs::Reading::fault_of))]
+    pub fn no_memory(&mut self)
+        ensures whole { IsTrue self.new.is_whole → ⊥ }
+        ensures out { fault_of self.old ≡ None → IsOut self.new }
+        ensures kept { Keeps self.old self.new }
+        ensures found { is_some (fault_of self.new) ≡ true }
+    {
+        self.is_whole = false;
+    }
+
     /// What is wrong at a place, in words that were made, or that there is no memory for them.
-    pub fn add(&mut self, place: Place, said: Result<String, AllocError>) {
+    #[tactic(auto, unfolding(crate::specs::Reading::fault_of))]
+    pub fn add(&mut self, place: Place, said: Result<String, AllocError>)
+        ensures whole { IsTrue self.new.is_whole → IsTrue self.old.is_whole }
+        ensures some { IsTrue self.new.is_whole → IsSome self.new.first }
+        ensures kept { Keeps self.old self.new }
+        ensures found { is_some (fault_of self.new) ≡ true }
+    {
         match said {
             Ok(what) => {
-                if self.first.is_none() {
+                if !self.is_any() {
                     self.first = Some(Refusal::Mistake {
                         line: place.line,
                         column: place.column,
@@ -74,19 +109,36 @@ impl Faults {
     }
 
     /// What is wrong at a place.
-    pub fn says(&mut self, place: Place, what: &str) {
+    pub fn says(&mut self, place: Place, what: &str)
+        ensures whole { IsTrue self.new.is_whole → IsTrue self.old.is_whole }
+        ensures some { IsTrue self.new.is_whole → IsSome self.new.first }
+        ensures kept { Keeps self.old self.new }
+        ensures found { is_some (fault_of self.new) ≡ true }
+    {
         let said = String::from_str(self.alloc, what);
         self.add(place, said);
     }
 
     /// What is wrong with a word at a place: the words before it, the word, and the words after it.
-    pub fn says_of(&mut self, place: Place, before: &[&str], word: &[u8], after: &str) {
+    pub fn says_of(&mut self, place: Place, before: &[&str], word: &[u8], after: &str)
+        ensures whole { IsTrue self.new.is_whole → IsTrue self.old.is_whole }
+        ensures some { IsTrue self.new.is_whole → IsSome self.new.first }
+        ensures kept { Keeps self.old self.new }
+        ensures found { is_some (fault_of self.new) ≡ true }
+    {
         let said = joined(self.alloc, before, word, after);
         self.add(place, said);
     }
 
-    /// AddsText an item to a list, where there is memory for it.
-    pub fn append<T: Drop>(&mut self, list: &mut Vec<T>, item: T) {
+    /// Adds an item to a list, where there is memory for it.
+    #[tactic(auto, unfolding(crate::specs::Reading::fault_of))]
+    pub fn append<T: Drop>(&mut self, list: &mut Vec<T>, item: T)
+        ensures whole { IsTrue self.new.is_whole → IsTrue self.old.is_whole }
+        ensures same { IsTrue self.new.is_whole → self.new ≡ self.old }
+        ensures added { IsTrue self.new.is_whole → list.new.items ≡ list.old.items ++ item ∷ [] }
+        ensures kept { Keeps self.old self.new }
+        ensures grown { fault_of self.old ≡ None → IsOut self.new ⊎ ((fault_of self.new ≡ None) × (list.new.items ≡ list.old.items ++ item ∷ [])) }
+    {
         if list.push(item).is_err() {
             self.no_memory();
         }
@@ -104,7 +156,12 @@ impl Faults {
     }
 
     /// A value in a box, where there is memory for it.
-    pub fn boxed<T: Drop>(&mut self, value: T) -> Option<Box<T>> {
+    pub fn boxed<T: Drop>(&mut self, value: T) -> Option<Box<T>>
+        ensures whole { IsTrue self.new.is_whole → IsTrue self.old.is_whole }
+        ensures same { IsTrue self.new.is_whole → self.new ≡ self.old }
+        ensures made { MatchOption result (IsTrue self.new.is_whole → ⊥) (λ place. place.value ≡ value) }
+        ensures kept { Keeps self.old self.new }
+    {
         match Box::new(self.alloc, value) {
             Ok(place) => Some(place),
             Err(_) => {
@@ -118,16 +175,21 @@ impl Faults {
     pub fn in_def(&mut self, line: usize) {
         if let Some(Refusal::Mistake { what, .. }) = &mut self.first {
             if add_def(self.alloc, what, line).is_err() {
-                self.first = Some(Refusal::NoMemory);
+                self.first = None;
+                self.is_whole = false;
             }
         }
     }
 
     /// A value, unless there is a fault.
-    pub fn outcome<T: Drop>(self, value: T) -> Result<T, Refusal> {
+    #[tactic(auto, unfolding(crate::specs::Reading::fault_of))]
+    pub fn outcome<T: Drop>(self, value: T) -> Result<T, Refusal>
+        ensures { MatchResult result (λ v. (fault_of self ≡ None) × (v ≡ value)) (λ r. fault_of self ≡ Some r) }
+    {
         match self.first {
             Some(refusal) => Err(refusal),
-            None => Ok(value),
+            None if self.is_whole => Ok(value),
+            None => Err(Refusal::NoMemory),
         }
     }
 }

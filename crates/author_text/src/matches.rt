@@ -229,7 +229,7 @@ impl<'a, 's> Resolver<'a, 's> {
         made
     }
 
-    /// AddsText that these bytes are released: a text, or the range of the table for the loop behind.
+    /// Adds that these bytes are released: a text, or the range of the table for the loop behind.
     fn push_released(
         &mut self,
         matches: &Matches<'a, 's>,
@@ -286,7 +286,7 @@ impl<'a, 's> Resolver<'a, 's> {
         Stmt::Once { body, place }
     }
 
-    /// AddsText the loop that releases bytes, whose byte comes into being in it where it `is_fresh`.
+    /// Adds the loop that releases bytes, whose byte comes into being in it where it `is_fresh`.
     fn push_release(
         &mut self,
         matches: &Matches<'a, 's>,

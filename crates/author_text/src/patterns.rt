@@ -44,7 +44,7 @@ impl Patterns {
         patterns
     }
 
-    /// AddsText the states of so many bytes, in the order of their bytes.
+    /// Adds the states of so many bytes, in the order of their bytes.
     fn add_states(&mut self, faults: &mut Faults, len: usize) {
         let mut last = None;
         for _ in 0..self.texts.len() {

@@ -1,5 +1,6 @@
 //! The places of a text.
 
+ghost use Rattle.std.specs.Prelude.{◌≡◌};
 ghost use Rattle.author_text.specs.Places.{HasPlace, IsRefusalOf};
 
 use crate::place::Place;
@@ -27,7 +28,8 @@ pub fn place_in(text: &[u8], place: Place) -> Place
 
 /// What is refused of a text, at a place that the text has.
 pub fn refused_of(text: &[u8], refusal: Refusal) -> Refusal
-    ensures { IsRefusalOf text.now result }
+    ensures place { IsRefusalOf text.now result }
+    ensures memory { refusal ≡ Refusal.NoMemory → result ≡ Refusal.NoMemory }
 {
     match refusal {
         Refusal::Mistake { line, column, what } => {

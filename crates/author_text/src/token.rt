@@ -1,6 +1,9 @@
 //! Tokens: the words, marks, names, numbers and texts of a filter.
 
-use crate::escape::after;
+ghost use Rattle.std.specs.Prelude.{◌≡◌};
+ghost use Rattle.author_text.specs.TextTokens.{mark_len};
+ghost use Rattle.author_text.specs.Words.{is_word};
+
 use crate::place::Place;
 
 /// What kind of token it is.
@@ -27,25 +30,21 @@ pub struct Token<'a> {
     pub place: Place,
 }
 
-/// The words of the language, which are no names, each between blanks.
-const WORDS: &[u8] =
-    b" filter var conn hold const param table def on start call bucket byte flush eos return match let emit keep copy in of decimal it drop cut at pass end fail leave next break continue if else while loop for log and or not empty has size ";
+/// The words of the language, which are no names, with blanks between them.
+const WORDS: &str =
+    "filter var conn hold const param table def on start call bucket byte flush eos return match let emit keep copy in of decimal it drop cut at pass end fail leave next break continue if else while loop for log and or not empty has size";
 
 /// Whether this is a word of the language.
-pub fn is_word(text: &[u8]) -> bool {
-    for start in 1..WORDS.len() {
-        let rest = after(WORDS, start);
-        if WORDS[start - 1] == b' ' && rest.starts_with(text) {
-            if after(rest, text.len()).first() == Some(&b' ') {
-                return true;
-            }
-        }
-    }
-    false
+pub fn is_word(text: &[u8]) -> bool
+    ensures { result ≡ is_word text.now }
+{
+    WORDS.split(' ').any(|word| word.as_bytes() == text)
 }
 
 /// How many bytes the mark has that a text begins with, or 0.
-pub fn mark_len(text: &[u8]) -> usize {
+pub fn mark_len(text: &[u8]) -> usize
+    ensures { result ≡ mark_len text.now }
+{
     match text {
         [b'+' | b'-' | b'=' | b'!' | b'<' | b'>', b'=', ..] => 2,
         [b'<', b'<', ..] | [b'>', b'>', ..] => 2,

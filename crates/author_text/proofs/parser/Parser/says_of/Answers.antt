@@ -1,0 +1,6 @@
+use Rattle.std.proofs.Common.{refl}
+use Rattle.author_text.proofs.ReadingLaws.{refuses}
+use Rattle.author_text.proofs.parser.Parser.says_of.Goals as goal
+
+pub returns : goal.returns
+returns c = record { whole = c.says_of.ensures.whole; read = λ w. refuses c.args.self.now _ (c.says_of.ensures.some w) refl }
