@@ -16,7 +16,7 @@ use Rattle.author_text.specs.Reading.{fault_in, fault_of, unread_in, unread_of}
 use Rattle.author_text.specs.TextTokens.{tokens_of}
 use Rattle.author_text.specs.Tokens.{TokenTree, token_of, end_token}
 use Rattle.author_text.specs.Trees.{SourceTree, source_of}
-use Rattle.author_text.specs.Unread.{Unread, tokens_at, end_alone}
+use Rattle.author_text.specs.UnreadTokens.{UnreadTokens, tokens_at, end_alone}
 use Rattle.author_text.specs.Writable.{WritableSource}
 use Rattle.author_text.proofs.PrintedStmtLaws.{source_reads}
 use Rattle.author_text.proofs.ReadSourceLaws.{filter_reads}

@@ -10,12 +10,12 @@ use Rattle.author_text.specs.declared.source.Plain.TheVariants as word
 use Rattle.author_text.specs.Printed.{operator_level, closer, left_level, is_loose}
 use Rattle.author_text.specs.PrintedSource.{plain_text}
 use Rattle.author_text.specs.PrintedTokens.{stmt_tokens, body_tokens}
-use Rattle.author_text.specs.ReadExprs.{operator_in, Stops}
+use Rattle.author_text.specs.ReadExprs.{operator_in, StopsExpr}
 use Rattle.author_text.specs.ReadStmts.{ends_block}
 use Rattle.author_text.specs.Tokens.{TokenTree, name_token, word_token, mark_token, operator_token, bracketed_tokens, expr_tokens}
 use Rattle.author_text.specs.Trees.{ExprTree, number, variable, size, empty, has, look, negation, binary}
 use Rattle.author_text.specs.Trees.{StmtTree, BodyTree, define, set, run, put, discard, cut, plain, choice, repeat, walk, log, nothing, first}
-use Rattle.author_text.specs.Unread.{first_token, is_at, is_end_token, is_quoted_token}
+use Rattle.author_text.specs.UnreadTokens.{first_token, is_at, is_end_token, is_quoted_token}
 
 pub and_left : (a b : Bool) → (a && b) ≡ true → a ≡ true
 and_left true b h = refl
@@ -90,7 +90,7 @@ calm_five : (t : TokenTree) → is_calm t ≡ true
     × ((is_quoted_token t || (is_at t (codes "-") || is_at t (codes "{"))) ≡ false)
 calm_five t h = five (is_at t (codes "[")) (is_at t (codes "of")) (is_at t (codes "else")) (is_at t (codes "at")) (is_quoted_token t || (is_at t (codes "-") || is_at t (codes "{"))) (goes_not t h)
 
-pub calm_stops : (us : List TokenTree) → is_calm (first_token us) ≡ true → Stops level.Or us
+pub calm_stops : (us : List TokenTree) → is_calm (first_token us) ≡ true → StopsExpr level.Or us
 calm_stops us h =
     ((λ l q. no_operator (first_token us) (and_left (no_operator_at (first_token us)) (not (goes_on (first_token us))) h) l), (calm_five (first_token us) h).0)
 
@@ -113,26 +113,26 @@ pub calm_open : (t : TokenTree) → is_calm t ≡ true → is_at t (codes "{") �
 calm_open t h = or_right (is_at t (codes "-")) (is_at t (codes "{")) (or_right (is_quoted_token t) (is_at t (codes "-") || is_at t (codes "{")) (calm_five t h).4)
 
 -- marks and words behind an expression
-pub mark_stops : (w : List ℕ) → no_operator_at (mark_token w) ≡ true → is_at (mark_token w) (codes "[") ≡ false → (us : List TokenTree) → Stops level.Or (mark_token w ∷ us)
+pub mark_stops : (w : List ℕ) → no_operator_at (mark_token w) ≡ true → is_at (mark_token w) (codes "[") ≡ false → (us : List TokenTree) → StopsExpr level.Or (mark_token w ∷ us)
 mark_stops w h i us = ((λ l q. no_operator (mark_token w) h l), i)
 
-pub comma_stops : (us : List TokenTree) → Stops level.Or (mark_token (codes ",") ∷ us)
+pub comma_stops : (us : List TokenTree) → StopsExpr level.Or (mark_token (codes ",") ∷ us)
 unfolding operator_in
 comma_stops us = mark_stops (codes ",") refl refl us
 
-pub round_stops : (us : List TokenTree) → Stops level.Or (mark_token (codes ")") ∷ us)
+pub round_stops : (us : List TokenTree) → StopsExpr level.Or (mark_token (codes ")") ∷ us)
 unfolding operator_in
 round_stops us = mark_stops (codes ")") refl refl us
 
-pub open_stops : (us : List TokenTree) → Stops level.Or (mark_token (codes "{") ∷ us)
+pub open_stops : (us : List TokenTree) → StopsExpr level.Or (mark_token (codes "{") ∷ us)
 unfolding operator_in
 open_stops us = mark_stops (codes "{") refl refl us
 
-pub of_stops : (us : List TokenTree) → Stops level.Or (word_token (codes "of") ∷ us)
+pub of_stops : (us : List TokenTree) → StopsExpr level.Or (word_token (codes "of") ∷ us)
 unfolding operator_in
 of_stops us = ((λ l q. no_operator (word_token (codes "of")) refl l), refl)
 
-pub in_stops : (us : List TokenTree) → Stops level.Or (word_token (codes "in") ∷ us)
+pub in_stops : (us : List TokenTree) → StopsExpr level.Or (word_token (codes "in") ∷ us)
 unfolding operator_in
 in_stops us = ((λ l q. no_operator (word_token (codes "in")) refl l), refl)
 

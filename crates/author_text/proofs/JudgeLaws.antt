@@ -10,7 +10,7 @@ use Rattle.author_text.specs.declared.refusal.Refusal.{Refusal}
 use Rattle.author_text.specs.declared.refusal.Refusal.TheVariants as refusal
 use Rattle.author_text.specs.declared.scan.Scanner.{Scanner}
 use Rattle.author_text.specs.declared.token.Token.{Token}
-use Rattle.author_text.specs.Reading.{IsOut, Keeps, fault_of}
+use Rattle.author_text.specs.Reading.{IsOut, KeepsFault, fault_of}
 use Rattle.author_text.specs.Scanning.{Advances, FindsAll, FindsSoFar, JudgesText, TakesPiece, is_at_token}
 use Rattle.author_text.specs.TextTokens.{FrontPiece, token_front, tokens_behind, tokens_of}
 use Rattle.author_text.specs.Tokens.{TokenTree, end_token, token_of}
@@ -18,7 +18,7 @@ use Rattle.author_text.proofs.FrontLaws.{token_some}
 use Rattle.author_text.proofs.ScanLaws.{at_token_front, behind_less, kept_some, onward, same_map}
 
 -- what was judged before goes on
-pub judged_more : (P Q R : Type 0) (s t : Faults) (a b : List ℕ) → Keeps s t → JudgesText s a P → ((fault_of s) ≡ None → P → JudgesText t b Q) → (P → Q → R)
+pub judged_more : (P Q R : Type 0) (s t : Faults) (a b : List ℕ) → KeepsFault s t → JudgesText s a P → ((fault_of s) ≡ None → P → JudgesText t b Q) → (P → Q → R)
     → (P → tokens_behind 0 b ≡ None → tokens_behind 0 a ≡ None) → JudgesText t a R
 judged_more P Q R s t a b k j next both none = by_case (fault_of s) refl j
   where
@@ -55,7 +55,7 @@ no_fault (Some r) s = absurd (cc)
 
 -- a token that is taken, and kept in a list
 pub advanced : (s t : Scanner) (u : Faults) (token : Token) (old new : List Token) (a rest : List ℕ) → tokens_behind 0 a ≡ tokens_behind 0 rest → length rest ≤ length a
-    → is_at_token rest ≡ true → 0 < length rest → s.rest.now ≡ rest → TakesPiece (token_front rest) s t token → Keeps t.faults u
+    → is_at_token rest ≡ true → 0 < length rest → s.rest.now ≡ rest → TakesPiece (token_front rest) s t token → KeepsFault t.faults u
     → ((fault_of t.faults) ≡ None → IsOut u ⊎ (((fault_of u) ≡ None) × (new ≡ old ++ token ∷ []))) → JudgesText u a (Advances true old new a t.rest.now)
 advanced s t u token old new a [] same le at some is takes kept added = absurd (omega (arith, some))
 advanced s t u token old new a (b ∷ bs) same le at some is takes kept added = by_piece (token_front (b ∷ bs)) refl takes
@@ -117,7 +117,7 @@ none_more old mid rest at count f n = f.2 ∙ ap (option_map (λ us. map token_o
 
 -- what is answered at the end, where the text has at most so many bytes
 pub read_whole : (most : ℕ) (text : List ℕ) (s t u : Faults) (end : Token) (found : List Token) (new : Vec Token) (r : Result (Vec Token) Refusal)
-    → JudgesText s (take most text) (FindsAll [] found (take most text)) → ((most < length text) × (is_some (fault_of t) ≡ true)) ⊎ ((length text ≤ most) × (t ≡ s)) → Keeps t u
+    → JudgesText s (take most text) (FindsAll [] found (take most text)) → ((most < length text) × (is_some (fault_of t) ≡ true)) ⊎ ((length text ≤ most) × (t ≡ s)) → KeepsFault t u
     → ((fault_of t) ≡ None → IsOut u ⊎ (((fault_of u) ≡ None) × (new.items ≡ found ++ end ∷ []))) → token_of end ≡ end_token
     → MatchResult r (λ v. ((fault_of u) ≡ None) × (v ≡ new)) (λ e. (fault_of u) ≡ Some e)
     → MatchResult r (λ v. Some (map token_of v.items) ≡ option_map (λ ts. ts ++ end_token ∷ []) (tokens_of text)) (λ e. (e ≡ refusal.NoMemory) ⊎ (tokens_of text ≡ None) ⊎ (most < length text))

@@ -10,7 +10,7 @@ use Rattle.author_text.specs.declared.source.BinaryOp.TheVariants as op
 use Rattle.author_text.specs.Printed.{operator_level, operator_text, closer, left_level, rank}
 use Rattle.author_text.specs.ReadExprs.{is_level, operator_among, operator_in}
 use Rattle.author_text.specs.Tokens.{TokenTree, name_token, operator_token}
-use Rattle.author_text.specs.Unread.{is_at}
+use Rattle.author_text.specs.UnreadTokens.{is_at}
 
 level_at : ℕ → Level
 level_at zero = level.Or

@@ -7,31 +7,31 @@ use Rattle.author_text.specs.declared.operators.Level.TheVariants as level
 use Rattle.author_text.specs.declared.source.BinaryOp.{BinaryOp}
 use Rattle.author_text.specs.Limits.{operator_count, bracketed_calls, expr_calls, FitsExpr}
 use Rattle.author_text.specs.Printed.{operator_level, closer, left_level, rank, level_of, is_loose}
-use Rattle.author_text.specs.ReadExprs.{ReadExpr, Stops, is_level, operator_in, read_more, unchained, read_expr}
+use Rattle.author_text.specs.ReadExprs.{ReadExpr, StopsExpr, is_level, operator_in, read_more, unchained, read_expr}
 use Rattle.author_text.specs.ReadExprs.{read_chain, read_operand, read_unit, read_inner, read_named, read_asked, read_hold_behind}
 use Rattle.author_text.specs.Tokens.{TokenTree, number_token, name_token, word_token, mark_token, operator_token, hold_or_it_token}
 use Rattle.author_text.specs.Tokens.{bracketed_tokens, expr_tokens, within_tokens}
 use Rattle.author_text.specs.Trees.{ExprTree, number, variable, size, empty, has, look, negation, binary}
-use Rattle.author_text.specs.Unread.{Unread, tokens_at, first_token, next_token, is_at, read_name, read_hold_or_it}
+use Rattle.author_text.specs.UnreadTokens.{UnreadTokens, tokens_at, first_token, next_token, is_at, read_name, read_hold_or_it}
 use Rattle.author_text.proofs.OperatorLaws.{same_level, rank_most, rank_closer, rank_operator, left_same, is_own_level, is_other_level, operator_own, operator_closer, operator_no_index, same_test}
 
-abbrev read_at : Level → ℕ → Unread → ReadExpr
+abbrev read_at : Level → ℕ → UnreadTokens → ReadExpr
 read_at level.Unit d u = read_unit d u
 read_at l d u = read_chain d l u
 
 abbrev within_calls : ExprTree → Level → ℕ
 within_calls e l = bracketed_calls (is_loose e l) (expr_calls e)
 
-pub more_none : (f : Unread → ReadExpr) (l : Level) (k : ℕ) (e : ExprTree) (v : Unread) → operator_in l (next_token v) ≡ None → read_more f l k e v ≡ (e, v)
+pub more_none : (f : UnreadTokens → ReadExpr) (l : Level) (k : ℕ) (e : ExprTree) (v : UnreadTokens) → operator_in l (next_token v) ≡ None → read_more f l k e v ≡ (e, v)
 more_none f l zero e v h = refl
 more_none f l (suc k) e v h = rw (h, read_more) refl
 
-chain_of_operand : (d : ℕ) (l : Level) (u : Unread) (e : ExprTree) (v : Unread) → read_operand d l u ≡ (e, v)
+chain_of_operand : (d : ℕ) (l : Level) (u : UnreadTokens) (e : ExprTree) (v : UnreadTokens) → read_operand d l u ≡ (e, v)
     → read_chain (suc d) l u ≡ read_more (read_operand d l) l (length v.tokens + 1) e v
 unfolding read_chain
 chain_of_operand d l u e v h = rw h refl
 
-operand_down : (l : Level) (d : ℕ) (u : Unread) → rank l < 5 → (l ≡ level.Compare → is_at (next_token u) (codes "not") ≡ false)
+operand_down : (l : Level) (d : ℕ) (u : UnreadTokens) → rank l < 5 → (l ≡ level.Compare → is_at (next_token u) (codes "not") ≡ false)
     → read_operand (suc d) l u ≡ read_at (closer l) d u
 unfolding read_operand
 operand_down level.Or d u r nn = refl
@@ -41,7 +41,7 @@ operand_down level.Sum d u r nn = refl
 operand_down level.Product d u r nn = refl
 operand_down level.Unit d u r nn = absurd (omega arith)
 
-chain_at : (l : Level) (d : ℕ) (u : Unread) → rank l < 5 → read_at l d u ≡ read_chain d l u
+chain_at : (l : Level) (d : ℕ) (u : UnreadTokens) → rank l < 5 → read_at l d u ≡ read_chain d l u
 chain_at level.Or d u r = refl
 chain_at level.And d u r = refl
 chain_at level.Compare d u r = refl
@@ -50,10 +50,10 @@ chain_at level.Product d u r = refl
 chain_at level.Unit d u r = absurd (omega arith)
 
 -- an expression is read at a level, with so many calls or more
-abbrev AtLevel : ℕ → Level → Unread → ExprTree → Unread → Type 0
+abbrev AtLevel : ℕ → Level → UnreadTokens → ExprTree → UnreadTokens → Type 0
 AtLevel c l u e v = (d : ℕ) → c ≤ d + 2 * rank l → read_at l d u ≡ (e, v)
 
-down : (l : Level) (c : ℕ) (u : Unread) (e : ExprTree) (v : Unread) → rank l < 5 → 11 ≤ c → AtLevel c (closer l) u e v
+down : (l : Level) (c : ℕ) (u : UnreadTokens) (e : ExprTree) (v : UnreadTokens) → rank l < 5 → 11 ≤ c → AtLevel c (closer l) u e v
     → operator_in l (next_token v) ≡ None → (l ≡ level.Compare → is_at (next_token u) (codes "not") ≡ false)
     → (d : ℕ) → c ≤ d + 2 * rank l → read_at l d u ≡ (e, v)
 down l c u e v r big a s nn zero h = absurd (omega arith)
@@ -63,7 +63,7 @@ down l c u e v r big a s nn (suc (suc d)) h =
     ∙ chain_of_operand (suc d) l u e v (operand_down l d u r nn ∙ a d (omega (arith, h, rank_closer l r)))
     ∙ more_none (read_operand (suc d) l) l (length v.tokens + 1) e v s
 
-climb : (k : ℕ) (l m : Level) (c : ℕ) (u : Unread) (e : ExprTree) (v : Unread) → rank l + k ≡ rank m → 11 ≤ c → AtLevel c m u e v
+climb : (k : ℕ) (l m : Level) (c : ℕ) (u : UnreadTokens) (e : ExprTree) (v : UnreadTokens) → rank l + k ≡ rank m → 11 ≤ c → AtLevel c m u e v
     → ((o : Level) → rank l ≤ rank o → operator_in o (next_token v) ≡ None) → (3 ≤ rank m → is_at (next_token u) (codes "not") ≡ false)
     → AtLevel c l u e v
 climb zero l m c u e v r big a s nn = subst (λ x. AtLevel c x u e v) (same_level m l (omega (arith, r))) a
@@ -79,7 +79,7 @@ climb (suc k) l m c u e v r big a s nn =
 
 -- an expression whose brackets are not needed at this level
 abbrev pub Core : ExprTree → Type 0
-Core e = (l : Level) (n : ℕ) (us : List TokenTree) → rank l ≤ rank (level_of e) → n + operator_count e ≤ 250 → Stops l us
+Core e = (l : Level) (n : ℕ) (us : List TokenTree) → rank l ≤ rank (level_of e) → n + operator_count e ≤ 250 → StopsExpr l us
     → AtLevel (expr_calls e) l (tokens_at (expr_tokens e ++ us) n) e (tokens_at us (n + operator_count e))
 
 pub calls_least : (e : ExprTree) → 11 ≤ expr_calls e
@@ -141,7 +141,7 @@ within_no_not e l us h = by_test (is_loose e l) refl
 
 -- what is read at the closest level
 abbrev AtUnit : ExprTree → Type 0
-AtUnit e = (n : ℕ) (us : List TokenTree) → n + operator_count e ≤ 250 → Stops level.Unit us
+AtUnit e = (n : ℕ) (us : List TokenTree) → n + operator_count e ≤ 250 → StopsExpr level.Unit us
     → AtLevel (expr_calls e) level.Unit (tokens_at (expr_tokens e ++ us) n) e (tokens_at us (n + operator_count e))
 
 core_of_unit : (e : ExprTree) → 3 ≤ rank (level_of e) → rank (level_of e) ≡ 5 → AtUnit e → Core e
@@ -179,7 +179,7 @@ empty_unit x n us m s (suc zero) h = absurd (omega arith)
 empty_unit x n us m s (suc (suc d)) h = ap (λ k. (empty x, tokens_at us k)) (omega arith)
 
 -- what stands before a closing bracket
-closes : (close : List ℕ) (us : List TokenTree) → ((l : Level) → operator_in l (mark_token close) ≡ None) → bytes_eq close (codes "[") ≡ false → Stops level.Or (mark_token close ∷ us)
+closes : (close : List ℕ) (us : List TokenTree) → ((l : Level) → operator_in l (mark_token close) ≡ None) → bytes_eq close (codes "[") ≡ false → StopsExpr level.Or (mark_token close ∷ us)
 closes close us none other = ((λ l t. none l), other)
 
 round_stops : (l : Level) → operator_in l (mark_token (codes ")")) ≡ None
@@ -193,7 +193,7 @@ square_stops level.Or = refl
 square_stops _ = refl
 
 inner_reads : (e : ExprTree) → Core e → (close : List ℕ) → bytes_eq close close ≡ true → (n : ℕ) (us : List TokenTree) (d : ℕ)
-    → n + operator_count e ≤ 250 → Stops level.Or (mark_token close ∷ us) → expr_calls e + 1 ≤ d
+    → n + operator_count e ≤ 250 → StopsExpr level.Or (mark_token close ∷ us) → expr_calls e + 1 ≤ d
     → read_inner d close (tokens_at (expr_tokens e ++ mark_token close ∷ us) n) ≡ (e, tokens_at us (n + operator_count e))
 unfolding read_inner
 inner_reads e core close same n us zero m s h = absurd (omega arith)
@@ -224,7 +224,7 @@ bracket_unit e core n us m (suc d) h =
 
 -- an expression, in brackets where it needs them
 abbrev pub Within : ExprTree → Type 0
-Within e = (l : Level) (n : ℕ) (us : List TokenTree) → n + operator_count e ≤ 250 → Stops l us
+Within e = (l : Level) (n : ℕ) (us : List TokenTree) → n + operator_count e ≤ 250 → StopsExpr l us
     → AtLevel (within_calls e l) l (tokens_at (within_tokens e l ++ us) n) e (tokens_at us (n + operator_count e))
 
 within_of : (e : ExprTree) → Core e → Within e
@@ -258,19 +258,19 @@ negation_core e core l n us r m s = climb_from (2 - rank l) (omega (arith, r))
         here s.0 (λ t. absurd (omega (arith, t)))
 
 -- one operator with its right operand
-more_step : (f : Unread → ReadExpr) (l : Level) (k : ℕ) (o : BinaryOp) (e r : ExprTree) (rs ws : List TokenTree) (n m : ℕ) → operator_level o ≡ l → n < 250
+more_step : (f : UnreadTokens → ReadExpr) (l : Level) (k : ℕ) (o : BinaryOp) (e r : ExprTree) (rs ws : List TokenTree) (n m : ℕ) → operator_level o ≡ l → n < 250
     → f (tokens_at rs (n + 1)) ≡ (r, tokens_at ws m) → unchained l (tokens_at ws m) ≡ tokens_at ws m
     → read_more f l (suc k) e (tokens_at (operator_token o ∷ rs) n) ≡ read_more f l k (binary o e r) (tokens_at ws m)
 more_step f l k o e r rs ws n m is few h un = rw (operator_own o l is, read_more) (rw (lt-leb 250 n few) (rw h (rw un refl)))
 
 -- the left operand of an operator of a level, and what is read behind it
 abbrev pub Left : ExprTree → Level → Type 0
-Left a m = (n : ℕ) (us : List TokenTree) (d : ℕ) → n + operator_count a ≤ 250 → within_calls a (left_level m) ≤ suc d + 2 * rank m → Stops (closer m) us
+Left a m = (n : ℕ) (us : List TokenTree) (d : ℕ) → n + operator_count a ≤ 250 → within_calls a (left_level m) ≤ suc d + 2 * rank m → StopsExpr (closer m) us
     → (k : ℕ) × (length us < k)
     × (read_chain (suc d) m (tokens_at (within_tokens a (left_level m) ++ us) n) ≡ read_more (read_operand d m) m k a (tokens_at us (n + operator_count a)))
 
 operand_reads : (e : ExprTree) → Core e → (m : Level) → rank m < 5 → (n : ℕ) (us : List TokenTree) (d : ℕ) → n + operator_count e ≤ 250
-    → within_calls e (closer m) ≤ suc d + 2 * rank m → Stops (closer m) us
+    → within_calls e (closer m) ≤ suc d + 2 * rank m → StopsExpr (closer m) us
     → read_operand d m (tokens_at (within_tokens e (closer m) ++ us) n) ≡ (e, tokens_at us (n + operator_count e))
 operand_reads e core m r n us zero few h s = absurd (omega (arith, calls_within e (closer m), h, r))
 operand_reads e core m r n us (suc d) few h s =
@@ -302,7 +302,7 @@ unchained_none level.Unit us n h = refl
 
 -- an operator with both operands
 own : (o : BinaryOp) (a b : ExprTree) → Left a (operator_level o) → Core b → (n : ℕ) (us : List TokenTree) (d : ℕ)
-    → n + operator_count (binary o a b) ≤ 250 → expr_calls (binary o a b) ≤ suc d + 2 * rank (operator_level o) → Stops (closer (operator_level o)) us
+    → n + operator_count (binary o a b) ≤ 250 → expr_calls (binary o a b) ≤ suc d + 2 * rank (operator_level o) → StopsExpr (closer (operator_level o)) us
     → (operator_level o ≡ level.Compare → operator_in (operator_level o) (first_token us) ≡ None)
     → (k : ℕ) × (length us < k)
     × (read_chain (suc d) (operator_level o) (tokens_at (expr_tokens (binary o a b) ++ us) n)
@@ -410,15 +410,15 @@ facts (binary o a b) =
     record { core = binary_core o a b left core; left = binary_left o a b left core (binary_core o a b left core) }
 
 -- the tokens of an expression are read as the expression, and no more than they
-pub expr_reads : (e : ExprTree) (us : List TokenTree) → operator_count e ≤ 250 → expr_calls e ≤ 1000 → Stops level.Or us
+pub expr_reads : (e : ExprTree) (us : List TokenTree) → operator_count e ≤ 250 → expr_calls e ≤ 1000 → StopsExpr level.Or us
     → read_expr (tokens_at (expr_tokens e ++ us) 0) ≡ (e, tokens_at us 0)
 unfolding read_expr
 expr_reads e us few shallow s = rw ((facts e).core level.Or 0 us (omega arith) (omega (arith, few)) s 1000 (omega (arith, shallow))) refl
 
 -- what was read of the tokens of an expression
-pub expr_again : (e r : ExprTree) (us : List TokenTree) (u v : Unread) → FitsExpr e → Stops level.Or us → u ≡ tokens_at (expr_tokens e ++ us) 0
+pub expr_again : (e r : ExprTree) (us : List TokenTree) (u v : UnreadTokens) → FitsExpr e → StopsExpr level.Or us → u ≡ tokens_at (expr_tokens e ++ us) 0
     → (r ≡ (read_chain 1000 level.Or u).0) × (v ≡ (read_chain 1000 level.Or u).1) → (r ≡ e) × (v.tokens ≡ us)
 expr_again e r us u v f s q k =
     let h : read_chain 1000 level.Or u ≡ (e, tokens_at us (0 + operator_count e)) =
     ap (λ x. read_chain 1000 level.Or x) q ∙ (facts e).core level.Or 0 us (omega arith) (omega (arith, f.0)) s 1000 (omega (arith, f.1)) in
-    (k.0 ∙ ap (λ (z : ReadExpr). z.0) h, ap (λ (z : Unread). z.tokens) (k.1 ∙ ap (λ (z : ReadExpr). z.1) h))
+    (k.0 ∙ ap (λ (z : ReadExpr). z.0) h, ap (λ (z : UnreadTokens). z.tokens) (k.1 ∙ ap (λ (z : ReadExpr). z.1) h))

@@ -17,7 +17,7 @@ use Rattle.author_text.specs.ReadTexts.{read_items, read_list, read_name_is}
 use Rattle.author_text.specs.Tokens.{TokenTree, quoted_token, name_token, word_token, mark_token, end_token, expr_tokens}
 use Rattle.author_text.specs.Trees.{ExprTree, TextTree, quoted, param, DeclTree, var, hold, constant, param_number, param_text, table, def, BodyTree}
 use Rattle.author_text.specs.Trees.{TriggerTree, event, byte, pattern, HandlerTree, SourceTree}
-use Rattle.author_text.specs.Unread.{Unread, tokens_at, first_token, is_at, is_quoted_token, read_name, read_new_name}
+use Rattle.author_text.specs.UnreadTokens.{UnreadTokens, tokens_at, first_token, is_at, is_quoted_token, read_name, read_new_name}
 use Rattle.author_text.specs.Words.{is_word}
 use Rattle.author_text.proofs.CalmLaws.{is_calm, calm_stops, calm_at, calm_hyphen, calm_quoted, expr_quoted}
 use Rattle.author_text.proofs.ReadStmtLaws.{at_end, e_reads, quoted_reads, text_reads, list_reads, body_list, block_reads}
@@ -57,7 +57,7 @@ decl_reads (hold name false (Some e)) us f c = rw (e_reads e us f (calm_stops us
 decl_reads (constant name e) us f c = rw (e_reads e us f (calm_stops us c)) refl
 decl_reads (param_number name e) us f c = rw (expr_quoted e us) (rw (e_reads e us f (calm_stops us c)) refl)
 decl_reads (param_text name bytes) us f c = rw (quoted_reads bytes us f (calm_quoted (first_token us) c)) refl
-decl_reads (table name t) us f c = ap (λ (x : TextTree × Unread). (table name x.0, x.1)) (text_reads t us f (calm_quoted (first_token us) c))
+decl_reads (table name t) us f c = ap (λ (x : TextTree × UnreadTokens). (table name x.0, x.1)) (text_reads t us f (calm_quoted (first_token us) c))
 decl_reads (def name params body) us f c = def_reads name params body us f
 
 decl_calm : (x : DeclTree) (us : List TokenTree) → is_calm (first_token (decl_tokens x ++ us)) ≡ true
@@ -115,7 +115,7 @@ trigger_reads : (t : TriggerTree) (us : List TokenTree) → FitsTrigger t → is
 unfolding read_trigger event_in read_name
 trigger_reads (event e) us f c = event_reads e us
 trigger_reads (byte name) us f c = refl
-trigger_reads (pattern t) us f c = ap (λ (x : TextTree × Unread). (pattern x.0, x.1)) (text_reads t us f c)
+trigger_reads (pattern t) us f c = ap (λ (x : TextTree × UnreadTokens). (pattern x.0, x.1)) (text_reads t us f c)
 
 on_calm : is_calm (word_token (codes "on")) ≡ true
 unfolding operator_in
@@ -143,7 +143,7 @@ handler_some : (h : HandlerTree) → 1 ≤ length (handler_tokens h)
 handler_some h = omega (arith, length-append (trigger_tokens h.on) (block_tokens (body_tokens h.body)), ap length (on_first h.on))
 
 -- items, one behind the other
-items_all : {A : Type 0} (stops : Unread → Bool) (item : Unread → A × Unread) (shown : A → List TokenTree) (P : A → Type 0)
+items_all : {A : Type 0} (stops : UnreadTokens → Bool) (item : UnreadTokens → A × UnreadTokens) (shown : A → List TokenTree) (P : A → Type 0)
     → ((x : A) (us : List TokenTree) → P x → is_calm (first_token us) ≡ true → item (tokens_at (shown x ++ us) 0) ≡ (x, tokens_at us 0))
     → ((x : A) (us : List TokenTree) → stops (tokens_at (shown x ++ us) 0) ≡ false)
     → ((x : A) (us : List TokenTree) → is_calm (first_token (shown x ++ us)) ≡ true)

@@ -12,7 +12,7 @@ use Rattle.author_text.specs.Fits.{FitsOption, FitsText, FitsThing, FitsStmt, Fi
 use Rattle.author_text.specs.PrintedSource.{plain_text, is_choice, is_nothing}
 use Rattle.author_text.specs.PrintedTokens.{text_token, thing_tokens, listed_tokens, optional_tokens, put_token, block_tokens, stmt_tokens, body_tokens, other_tokens}
 use Rattle.byte_text.specs.Quoted.{spelled_all}
-use Rattle.author_text.specs.ReadExprs.{ReadExpr, Stops, read_expr}
+use Rattle.author_text.specs.ReadExprs.{ReadExpr, StopsExpr, read_expr}
 use Rattle.author_text.specs.ReadStmts.{ends_block, plain_in, read_thing, read_copied, read_decimal, read_number_or_part, read_set, read_run, read_change, read_set_or_run}
 use Rattle.author_text.specs.ReadStmts.{read_log, read_let, read_emit, read_keep, read_drop, read_cut, read_spoken, read_plain, read_other}
 use Rattle.author_text.specs.ReadStmts.{read_block, read_stmt, read_worded, read_choice, read_walk}
@@ -22,7 +22,7 @@ use Rattle.author_text.specs.Trees.{ExprTree, TextTree, quoted, param, ThingTree
 use Rattle.author_text.specs.Trees.{StmtTree, BodyTree, define, set, run, put, discard, cut, plain, choice, repeat, walk, log, nothing, first, body_of}
 use Rattle.author_text.specs.Escapes.{spelled_bytes}
 use Rattle.author_text.specs.Writable.{AllBytes}
-use Rattle.author_text.specs.Unread.{Unread, tokens_at, first_token, tokens_after, needed, is_at, is_end_token, is_quoted_token, read_name, read_new_name, read_hold_or_it}
+use Rattle.author_text.specs.UnreadTokens.{UnreadTokens, tokens_at, first_token, tokens_after, needed, is_at, is_end_token, is_quoted_token, read_name, read_new_name, read_hold_or_it}
 use Rattle.author_text.proofs.CalmLaws.{is_calm, and_left, and_right, calm_stops, calm_of, calm_open, calm_else, calm_quoted, comma_stops, round_stops, open_stops, of_stops, in_stops, close_calm, in_calm}
 use Rattle.author_text.proofs.CalmLaws.{expr_quoted, expr_it, expr_copy, expr_decimal, expr_round, stmt_calm, stmt_opens, stmt_some, body_calm}
 use Rattle.author_text.proofs.ReadExprLaws.{expr_reads}
@@ -31,10 +31,10 @@ use Rattle.author_text.proofs.PushLaws.{spelled_again}
 pub at_end : (ts us : List TokenTree) (t : TokenTree) → (ts ++ (t ∷ [])) ++ us ≡ ts ++ (t ∷ us)
 at_end ts us t = append_assoc ts (t ∷ []) us
 
-pub e_reads : (e : ExprTree) (us : List TokenTree) → FitsExpr e → Stops level.Or us → read_expr (tokens_at (expr_tokens e ++ us) 0) ≡ (e, tokens_at us 0)
+pub e_reads : (e : ExprTree) (us : List TokenTree) → FitsExpr e → StopsExpr level.Or us → read_expr (tokens_at (expr_tokens e ++ us) 0) ≡ (e, tokens_at us 0)
 e_reads e us f s = expr_reads e us f.0 f.1 s
 
-none_quoted : (t : TokenTree) (f : Unread → List ℕ × Unread) (u : Unread) → is_quoted_token t ≡ false → more_quoted t f u ≡ ([], u)
+none_quoted : (t : TokenTree) (f : UnreadTokens → List ℕ × UnreadTokens) (u : UnreadTokens) → is_quoted_token t ≡ false → more_quoted t f u ≡ ([], u)
 none_quoted (number_token n) f u h = refl
 none_quoted (quoted_token x) f u h = absurd (cc)
 none_quoted (name_token n) f u h = refl
@@ -47,7 +47,7 @@ pub quoted_reads : (bytes : List ℕ) (us : List TokenTree) → AllBytes bytes �
 unfolding read_quoted
 quoted_reads bytes us f h =
     ap (λ k. read_texts k (tokens_at (quoted_token (spelled_all bytes) ∷ us) 0)) (fuel (length us))
-    ∙ ap (λ (x : List ℕ × Unread). (spelled_bytes 0 (spelled_all bytes) ++ x.0, x.1)) (none_quoted (first_token us) (read_texts (length us)) (tokens_at us 0) h)
+    ∙ ap (λ (x : List ℕ × UnreadTokens). (spelled_bytes 0 (spelled_all bytes) ++ x.0, x.1)) (none_quoted (first_token us) (read_texts (length us)) (tokens_at us 0) h)
     ∙ ap (λ (x : List ℕ). (x ++ [], tokens_at us 0)) (spelled_again bytes f)
     ∙ ap (λ (x : List ℕ). (x, tokens_at us 0)) (append-nil bytes)
   where
@@ -56,7 +56,7 @@ quoted_reads bytes us f h =
 
 pub text_reads : (t : TextTree) (us : List TokenTree) → FitsText t → is_quoted_token (first_token us) ≡ false → read_text (tokens_at (text_token t ∷ us) 0) ≡ (t, tokens_at us 0)
 unfolding read_text
-text_reads (quoted bytes) us f h = ap (λ (x : List ℕ × Unread). (quoted x.0, x.1)) (quoted_reads bytes us f h)
+text_reads (quoted bytes) us f h = ap (λ (x : List ℕ × UnreadTokens). (quoted x.0, x.1)) (quoted_reads bytes us f h)
 text_reads (param name) us f h = refl
 
 value_reads : (e : ExprTree) (us : List TokenTree) → FitsExpr e → is_calm (first_token us) ≡ true → read_thing (tokens_at (expr_tokens e ++ us) 0) ≡ (value e, tokens_at us 0)
@@ -78,7 +78,7 @@ decimals_reads e us f = rw (e_reads e (mark_token (codes ")") ∷ us) f (round_s
 
 pub thing_reads : (t : ThingTree) (us : List TokenTree) → FitsThing t → is_calm (first_token us) ≡ true → read_thing (tokens_at (thing_tokens t ++ us) 0) ≡ (t, tokens_at us 0)
 unfolding read_thing read_copied read_decimal read_number_or_part read_hold_or_it read_name
-thing_reads (words (quoted bytes)) us f c = ap (λ (x : TextTree × Unread). (words x.0, x.1)) (text_reads (quoted bytes) us f (calm_quoted (first_token us) c))
+thing_reads (words (quoted bytes)) us f c = ap (λ (x : TextTree × UnreadTokens). (words x.0, x.1)) (text_reads (quoted bytes) us f (calm_quoted (first_token us) c))
 thing_reads (words (param name)) us f c = absurd f
 thing_reads (it false) us f c = refl
 thing_reads (it true) us f c = refl
@@ -91,7 +91,7 @@ thing_reads (part e name) us f c =
 thing_reads (value e) us f c = value_reads e us f c
 
 -- items with commas between them
-pub listed_reads : {A : Type 0} (item : Unread → A × Unread) (shown : A → List TokenTree) (P : A → Type 0)
+pub listed_reads : {A : Type 0} (item : UnreadTokens → A × UnreadTokens) (shown : A → List TokenTree) (P : A → Type 0)
     → ((x : A) (us : List TokenTree) → P x → item (tokens_at (shown x ++ (mark_token (codes ",") ∷ us)) 0) ≡ (x, tokens_at (mark_token (codes ",") ∷ us) 0))
     → ((x : A) (us : List TokenTree) → P x → item (tokens_at (shown x ++ (mark_token (codes ")") ∷ us)) 0) ≡ (x, tokens_at (mark_token (codes ")") ∷ us) 0))
     → ((x : A) (us : List TokenTree) → is_at (first_token (shown x ++ us)) (codes ")") ≡ false)
@@ -111,10 +111,10 @@ commas : {A : Type 0} (shown : A → List TokenTree) (xs : List A) → length xs
 commas shown [] = omega arith
 commas shown (x ∷ xs) = omega (arith, length-append ((mark_token (codes ",") ∷ []) ++ shown x) (flat_map (λ y. (mark_token (codes ",") ∷ []) ++ shown y) xs), commas shown xs)
 
-abbrev closes_list : {A : Type 0} → List A × Unread → List A × Unread
+abbrev closes_list : {A : Type 0} → List A × UnreadTokens → List A × UnreadTokens
 closes_list x = (x.0, needed (codes ")") x.1)
 
-pub list_reads : {A : Type 0} (item : Unread → A × Unread) (shown : A → List TokenTree) (P : A → Type 0)
+pub list_reads : {A : Type 0} (item : UnreadTokens → A × UnreadTokens) (shown : A → List TokenTree) (P : A → Type 0)
     → ((x : A) (us : List TokenTree) → P x → item (tokens_at (shown x ++ (mark_token (codes ",") ∷ us)) 0) ≡ (x, tokens_at (mark_token (codes ",") ∷ us) 0))
     → ((x : A) (us : List TokenTree) → P x → item (tokens_at (shown x ++ (mark_token (codes ")") ∷ us)) 0) ≡ (x, tokens_at (mark_token (codes ")") ∷ us) 0))
     → ((x : A) (us : List TokenTree) → is_at (first_token (shown x ++ us)) (codes ")") ≡ false)
@@ -203,9 +203,9 @@ log_reads : (is_conn : Bool) (t : TextTree) → StmtReads (log is_conn t)
 unfolding read_stmt read_worded read_plain plain_in read_spoken read_let read_emit read_keep read_drop read_cut read_log
 log_reads is_conn t zero us f h c = absurd (omega arith)
 log_reads is_conn t (suc zero) us f h c = absurd (omega arith)
-log_reads true t (suc (suc d)) us f h c = ap (λ (x : TextTree × Unread). (log true x.0, x.1)) (text_reads t us f (calm_quoted (first_token us) c))
-log_reads false (quoted bytes) (suc (suc d)) us f h c = ap (λ (x : TextTree × Unread). (log false x.0, x.1)) (text_reads (quoted bytes) us f (calm_quoted (first_token us) c))
-log_reads false (param name) (suc (suc d)) us f h c = ap (λ (x : TextTree × Unread). (log false x.0, x.1)) (text_reads (param name) us f (calm_quoted (first_token us) c))
+log_reads true t (suc (suc d)) us f h c = ap (λ (x : TextTree × UnreadTokens). (log true x.0, x.1)) (text_reads t us f (calm_quoted (first_token us) c))
+log_reads false (quoted bytes) (suc (suc d)) us f h c = ap (λ (x : TextTree × UnreadTokens). (log false x.0, x.1)) (text_reads (quoted bytes) us f (calm_quoted (first_token us) c))
+log_reads false (param name) (suc (suc d)) us f h c = ap (λ (x : TextTree × UnreadTokens). (log false x.0, x.1)) (text_reads (param name) us f (calm_quoted (first_token us) c))
 
 -- a body as a list
 abbrev pub list_of : BodyTree → List StmtTree

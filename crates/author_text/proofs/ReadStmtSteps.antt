@@ -5,17 +5,17 @@ use Rattle.author_text.specs.ReadExprs.{read_expr}
 use Rattle.author_text.specs.ReadStmts.{ReadStmt, ReadStmts, no_stmt, ends_block, stmt_at, read_other, read_plain, read_block, read_stmt, read_worded, read_choice, read_walk}
 use Rattle.author_text.specs.ReadTexts.{read_items, read_name_behind}
 use Rattle.author_text.specs.Trees.{ExprTree, StmtTree, choice, repeat, walk, body_of}
-use Rattle.author_text.specs.Unread.{Unread, next_token, refused, needed, read_name, read_hold_or_it}
+use Rattle.author_text.specs.UnreadTokens.{UnreadTokens, next_token, refused, needed, read_name, read_hold_or_it}
 
 less : (d : ℕ) → suc d - 1 ≡ d
 less d = omega arith
 
-pub block_none : (d : ℕ) (u : Unread) → d ≡ 0 → read_block d u ≡ ([], refused u)
+pub block_none : (d : ℕ) (u : UnreadTokens) → d ≡ 0 → read_block d u ≡ ([], refused u)
 unfolding read_block
 block_none zero u e = refl
 block_none (suc d) u e = absurd (omega arith)
 
-pub block_step : (d : ℕ) (u : Unread) → 0 < d → read_block d u ≡ (
+pub block_step : (d : ℕ) (u : UnreadTokens) → 0 < d → read_block d u ≡ (
     let v = needed (codes "{") u in
     let x = read_items ends_block (read_stmt (d - 1)) (length v.tokens + 1) v in
     (x.0, needed (codes "}") x.1))
@@ -23,22 +23,22 @@ unfolding read_block
 block_step zero u h = absurd (omega arith)
 block_step (suc d) u h = rw (less d) refl
 
-pub stmt_none : (d : ℕ) (u : Unread) → d ≡ 0 → read_stmt d u ≡ no_stmt u
+pub stmt_none : (d : ℕ) (u : UnreadTokens) → d ≡ 0 → read_stmt d u ≡ no_stmt u
 unfolding read_stmt
 stmt_none zero u e = refl
 stmt_none (suc d) u e = absurd (omega arith)
 
-pub stmt_step : (d : ℕ) (u : Unread) → 0 < d → read_stmt d u ≡ stmt_at (next_token u) (read_worded (d - 1)) u
+pub stmt_step : (d : ℕ) (u : UnreadTokens) → 0 < d → read_stmt d u ≡ stmt_at (next_token u) (read_worded (d - 1)) u
 unfolding read_stmt
 stmt_step zero u h = absurd (omega arith)
 stmt_step (suc d) u h = rw (less d) refl
 
-pub worded_none : (d : ℕ) (text : List ℕ) (u : Unread) → d ≡ 0 → read_worded d text u ≡ no_stmt u
+pub worded_none : (d : ℕ) (text : List ℕ) (u : UnreadTokens) → d ≡ 0 → read_worded d text u ≡ no_stmt u
 unfolding read_worded
 worded_none zero text u e = refl
 worded_none (suc d) text u e = absurd (omega arith)
 
-pub worded_step : (d : ℕ) (text : List ℕ) (u : Unread) → 0 < d → read_worded d text u ≡ (
+pub worded_step : (d : ℕ) (text : List ℕ) (u : UnreadTokens) → 0 < d → read_worded d text u ≡ (
     if bytes_eq text (codes "if") then read_choice (d - 1) u
     else if bytes_eq text (codes "for") then read_walk (d - 1) u
     else if bytes_eq text (codes "while") then (let e = read_expr u in let b = read_block (d - 1) e.1 in (repeat (Some e.0) (body_of b.0), b.1))
@@ -48,12 +48,12 @@ unfolding read_worded
 worded_step zero text u h = absurd (omega arith)
 worded_step (suc d) text u h = rw (less d) refl
 
-pub choice_none : (d : ℕ) (u : Unread) → d ≡ 0 → read_choice d u ≡ no_stmt u
+pub choice_none : (d : ℕ) (u : UnreadTokens) → d ≡ 0 → read_choice d u ≡ no_stmt u
 unfolding read_choice
 choice_none zero u e = refl
 choice_none (suc d) u e = absurd (omega arith)
 
-pub choice_step : (d : ℕ) (u : Unread) → 0 < d → read_choice d u ≡ (
+pub choice_step : (d : ℕ) (u : UnreadTokens) → 0 < d → read_choice d u ≡ (
     let e = read_expr u in
     let t = read_block (d - 1) e.1 in
     let o = read_other (read_choice (d - 1)) (read_block (d - 1)) t.1 in
@@ -62,12 +62,12 @@ unfolding read_choice
 choice_step zero u h = absurd (omega arith)
 choice_step (suc d) u h = rw (less d) refl
 
-pub walk_none : (d : ℕ) (u : Unread) → d ≡ 0 → read_walk d u ≡ no_stmt u
+pub walk_none : (d : ℕ) (u : UnreadTokens) → d ≡ 0 → read_walk d u ≡ no_stmt u
 unfolding read_walk
 walk_none zero u e = refl
 walk_none (suc d) u e = absurd (omega arith)
 
-pub walk_step : (d : ℕ) (u : Unread) → 0 < d → read_walk d u ≡ (
+pub walk_step : (d : ℕ) (u : UnreadTokens) → 0 < d → read_walk d u ≡ (
     let n = read_name (needed (codes "byte") u) in
     let i = read_name_behind (codes "at") n.1 in
     let o = read_hold_or_it (needed (codes "in") i.1) in
@@ -77,7 +77,7 @@ unfolding read_walk
 walk_step zero u h = absurd (omega arith)
 walk_step (suc d) u h = rw (less d) refl
 
-pub choice_all : (d : ℕ) (u u1 u2 u3 : Unread) (e : ExprTree) (t o : List StmtTree) → 0 < d → (e ≡ (read_expr u).0) × (u1 ≡ (read_expr u).1)
+pub choice_all : (d : ℕ) (u u1 u2 u3 : UnreadTokens) (e : ExprTree) (t o : List StmtTree) → 0 < d → (e ≡ (read_expr u).0) × (u1 ≡ (read_expr u).1)
     → (t ≡ (read_block (d - 1) u1).0) × (u2 ≡ (read_block (d - 1) u1).1)
     → (o ≡ (read_other (read_choice (d - 1)) (read_block (d - 1)) u2).0) × (u3 ≡ (read_other (read_choice (d - 1)) (read_block (d - 1)) u2).1)
     → (choice e (body_of t) (body_of o) ≡ (read_choice d u).0) × (u3 ≡ (read_choice d u).1)
@@ -91,7 +91,7 @@ choice_all d u u1 u2 u3 e t o h p q r =
       r.1 ∙ ap (λ z. (other z).1) b ∙ ap (λ z. z.1) (sym s),
     )
 
-pub walk_all : (d : ℕ) (u u1 u2 u3 u4 u5 u6 : Unread) (name : List ℕ) (index over : Option (List ℕ)) (b : List StmtTree) → 0 < d → u1 ≡ needed (codes "byte") u
+pub walk_all : (d : ℕ) (u u1 u2 u3 u4 u5 u6 : UnreadTokens) (name : List ℕ) (index over : Option (List ℕ)) (b : List StmtTree) → 0 < d → u1 ≡ needed (codes "byte") u
     → (name ≡ (read_name u1).0) × (u2 ≡ (read_name u1).1) → (index ≡ (read_name_behind (codes "at") u2).0) × (u3 ≡ (read_name_behind (codes "at") u2).1)
     → u4 ≡ needed (codes "in") u3 → (over ≡ (read_hold_or_it u4).0) × (u5 ≡ (read_hold_or_it u4).1)
     → (b ≡ (read_block (d - 1) u5).0) × (u6 ≡ (read_block (d - 1) u5).1)
@@ -110,7 +110,7 @@ walk_all d u u1 u2 u3 u4 u5 u6 name index over b h p1 p2 p3 p4 p5 p6 =
       p6.1 ∙ ap (λ z. (read_block (d - 1) z).1) e5 ∙ ap (λ z. z.1) (sym s),
     )
 
-pub worded_while : (d : ℕ) (text : List ℕ) (u u1 u2 : Unread) (e : ExprTree) (b : List StmtTree) → 0 < d → bytes_eq text (codes "if") ≡ false → bytes_eq text (codes "for") ≡ false
+pub worded_while : (d : ℕ) (text : List ℕ) (u u1 u2 : UnreadTokens) (e : ExprTree) (b : List StmtTree) → 0 < d → bytes_eq text (codes "if") ≡ false → bytes_eq text (codes "for") ≡ false
     → bytes_eq text (codes "while") ≡ true → (e ≡ (read_expr u).0) × (u1 ≡ (read_expr u).1) → (b ≡ (read_block (d - 1) u1).0) × (u2 ≡ (read_block (d - 1) u1).1)
     → (repeat (Some e) (body_of b) ≡ (read_worded d text u).0) × (u2 ≡ (read_worded d text u).1)
 worded_while d text u u1 u2 e b h n m is p q =
@@ -120,7 +120,7 @@ worded_while d text u u1 u2 e b h n m is p q =
       q.1 ∙ ap (λ z. (block z).1) p.1 ∙ ap (λ z. z.1) (sym s),
     )
 
-pub worded_loop : (d : ℕ) (text : List ℕ) (u u1 : Unread) (b : List StmtTree) → 0 < d → bytes_eq text (codes "if") ≡ false → bytes_eq text (codes "for") ≡ false
+pub worded_loop : (d : ℕ) (text : List ℕ) (u u1 : UnreadTokens) (b : List StmtTree) → 0 < d → bytes_eq text (codes "if") ≡ false → bytes_eq text (codes "for") ≡ false
     → bytes_eq text (codes "while") ≡ false → bytes_eq text (codes "loop") ≡ true → (b ≡ (read_block (d - 1) u).0) × (u1 ≡ (read_block (d - 1) u).1)
     → (repeat None (body_of b) ≡ (read_worded d text u).0) × (u1 ≡ (read_worded d text u).1)
 worded_loop d text u u1 b h n m l is q =

@@ -7,7 +7,7 @@ use Rattle.author_text.specs.declared.faults.Faults.{Faults}
 use Rattle.author_text.specs.declared.parser.Parser.{Parser}
 use Rattle.author_text.specs.declared.token.Token.{Token}
 use Rattle.author_text.specs.Reading.{unread_in, unread_of}
-use Rattle.author_text.specs.Unread.{Unread, first_token, tokens_after, next_token, passed, refused}
+use Rattle.author_text.specs.UnreadTokens.{UnreadTokens, first_token, tokens_after, next_token, passed, refused}
 use Rattle.author_text.specs.Tokens.{TokenTree, token_of, end_token}
 
 first_at : (ts : List Token) (n : ℕ) (d : Token) → n < length ts → first_token (map token_of (drop n ts)) ≡ token_of (get_or ts n d)
@@ -81,7 +81,7 @@ passes_none p n =
     let e : drop p.next p.tokens.now ≡ [] = drop_all p.next p.tokens.now n in
     rw e (rest_none p.faults.first p.operators)
   where
-    rest_none : (o : Option Refusal) (n : ℕ) → let u : Unread = record { tokens = unread_in o []; operators = n } in u ≡ passed u
+    rest_none : (o : Option Refusal) (n : ℕ) → let u : UnreadTokens = record { tokens = unread_in o []; operators = n } in u ≡ passed u
     rest_none None n = refl
     rest_none (Some r) n = refl
 

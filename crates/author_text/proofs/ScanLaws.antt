@@ -12,7 +12,7 @@ use Rattle.author_text.specs.declared.escape.Spelled.TheVariants as spelled
 use Rattle.author_text.specs.declared.faults.Faults.{Faults}
 use Rattle.author_text.specs.declared.refusal.Refusal.{Refusal}
 use Rattle.author_text.specs.Escapes.{may_stand, front_spelled}
-use Rattle.author_text.specs.Reading.{Keeps, fault_of}
+use Rattle.author_text.specs.Reading.{KeepsFault, fault_of}
 use Rattle.author_text.specs.Scanning.{is_at_token, is_clean, len_to_quote, text_piece}
 use Rattle.author_text.specs.TextTokens.{FrontPiece, piece, byte_front, byte_piece, byte_within, comment_front, front_piece}
 use Rattle.author_text.specs.TextTokens.{hex_len, is_line_end, len_to_end, mark_front, mark_len, is_slashes, name_front}
@@ -23,7 +23,7 @@ use Rattle.author_text.proofs.EscapeLaws.{checked, ends_at_quote}
 use Rattle.author_text.proofs.PieceLaws.{tokens_drop}
 
 -- a fault that was there stays
-pub kept_some : (old new : Faults) → Keeps old new → is_some (fault_of old) ≡ true → is_some (fault_of new) ≡ true
+pub kept_some : (old new : Faults) → KeepsFault old new → is_some (fault_of old) ≡ true → is_some (fault_of new) ≡ true
 kept_some old new k h = by_case (fault_of old) refl h
   where
     by_case : (o : Option Refusal) → (fault_of old) ≡ o → is_some o ≡ true → is_some (fault_of new) ≡ true

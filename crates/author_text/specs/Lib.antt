@@ -16,6 +16,6 @@ pub mod Scanning
 pub mod TextTokens
 pub mod Tokens
 pub mod Trees
-pub mod Unread
+pub mod UnreadTokens
 pub mod Words
 pub mod Writable

@@ -9,7 +9,7 @@ use Rattle.author_text.specs.ReadSource.{read_filter}
 use Rattle.author_text.specs.TextTokens.{tokens_of}
 use Rattle.author_text.specs.Tokens.{TokenTree, end_token}
 use Rattle.author_text.specs.Trees.{SourceTree, source_of}
-use Rattle.author_text.specs.Unread.{tokens_at}
+use Rattle.author_text.specs.UnreadTokens.{tokens_at}
 use Rattle.author_text.specs.Writable.{WritableSource}
 
 -- the text has tokens, and these are read as the tree

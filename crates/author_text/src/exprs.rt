@@ -3,11 +3,11 @@
 ghost use Rattle.std.specs.Prelude.{◌≡◌, ◌++◌, IsTrue, List};
 ghost use Rattle.author_text.specs.Limits.{FitsExpr};
 ghost use Rattle.author_text.specs.ReadExprs.{counted, no_expr, operator_among, operator_in, read_asked, read_chain, read_expr, read_hold_behind, read_inner};
-ghost use Rattle.author_text.specs.ReadExprs.{read_named, read_operand, read_unit, Stops, unchained};
-ghost use Rattle.author_text.specs.Reading.{Reads, ReadsAs, unread_of};
+ghost use Rattle.author_text.specs.ReadExprs.{read_named, read_operand, read_unit, StopsExpr, unchained};
+ghost use Rattle.author_text.specs.Reading.{ReadsTokens, ReadsAs, unread_of};
 ghost use Rattle.author_text.specs.Trees.{ExprTree, expr_of, name_of, names_of, number, variable, size, empty, has, look, negation, binary};
 ghost use Rattle.author_text.specs.Tokens.{TokenTree, expr_tokens};
-ghost use Rattle.author_text.specs.Unread.{next_token, tokens_at};
+ghost use Rattle.author_text.specs.UnreadTokens.{next_token, tokens_at};
 
 use crate::operators::{Level, OPERATORS, closer, operator_level, operator_text, rank};
 use crate::parser::Parser;
@@ -57,8 +57,8 @@ impl<'a, 't> Parser<'a, 't> {
     #[tactic(auto, unfolding(crate::specs::ReadExprs::read_expr, crate::specs::Reading::unread_of))]
     pub fn expr(&mut self) -> Expr<'a>
         ensures read { ReadsAs self.old self.new (expr_of result) (read_expr (unread_of self.old)) }
-        ensures again { (e : ExprTree) (ts : List TokenTree) → FitsExpr e → Stops Level.Or ts → unread_of self.old ≡ tokens_at (expr_tokens e ++ ts) 0
-            → Reads self.old self.new ((expr_of result ≡ e) × (unread_of self.new ≡ tokens_at ts 0)) }
+        ensures again { (e : ExprTree) (ts : List TokenTree) → FitsExpr e → StopsExpr Level.Or ts → unread_of self.old ≡ tokens_at (expr_tokens e ++ ts) 0
+            → ReadsTokens self.old self.new ((expr_of result ≡ e) × (unread_of self.new ≡ tokens_at ts 0)) }
     {
         let expr = self.chain(Level::Or, MAX_DEPTH);
         self.operators = 0;
@@ -87,7 +87,7 @@ impl<'a, 't> Parser<'a, 't> {
 
     #[tactic(auto, unfolding(crate::specs::Reading::unread_of))]
     fn count_operator(&mut self)
-        ensures { Reads self.old self.new (unread_of self.new ≡ counted (unread_of self.old)) }
+        ensures { ReadsTokens self.old self.new (unread_of self.new ≡ counted (unread_of self.old)) }
     {
         if MAX_OPERATORS <= self.operators {
             self.says("this expression is too long");
@@ -97,7 +97,7 @@ impl<'a, 't> Parser<'a, 't> {
     }
 
     fn check_unchained(&mut self, level: Level)
-        ensures { Reads self.old self.new (unread_of self.new ≡ unchained level (unread_of self.old)) }
+        ensures { ReadsTokens self.old self.new (unread_of self.new ≡ unchained level (unread_of self.old)) }
     {
         if level == Level::Compare && self.operator(level).is_some() {
             self.says("comparisons are not chained: write `a < b and b < c`");
@@ -105,7 +105,7 @@ impl<'a, 't> Parser<'a, 't> {
     }
 
     fn binary(&mut self, op: BinaryOp, left: Expr<'a>, right: Expr<'a>, place: Place) -> Expr<'a>
-        ensures { Reads self.old self.new ((expr_of result ≡ binary op (expr_of left.entry) (expr_of right.entry)) × (unread_of self.new ≡ unread_of self.old)) }
+        ensures { ReadsTokens self.old self.new ((expr_of result ≡ binary op (expr_of left.entry) (expr_of right.entry)) × (unread_of self.new ≡ unread_of self.old)) }
     {
         match (self.faults.boxed(left), self.faults.boxed(right)) {
             (Some(left), Some(right)) => Expr::Binary {
@@ -119,7 +119,7 @@ impl<'a, 't> Parser<'a, 't> {
     }
 
     fn negation(&mut self, of: Expr<'a>, place: Place) -> Expr<'a>
-        ensures { Reads self.old self.new ((expr_of result ≡ negation (expr_of of.entry)) × (unread_of self.new ≡ unread_of self.old)) }
+        ensures { ReadsTokens self.old self.new ((expr_of result ≡ negation (expr_of of.entry)) × (unread_of self.new ≡ unread_of self.old)) }
     {
         match self.faults.boxed(of) {
             Some(of) => Expr::Not { of, place },
@@ -128,7 +128,7 @@ impl<'a, 't> Parser<'a, 't> {
     }
 
     fn look(&mut self, table: Name<'a>, index: Expr<'a>) -> Expr<'a>
-        ensures { Reads self.old self.new ((expr_of result ≡ look (name_of table.entry) (expr_of index.entry)) × (unread_of self.new ≡ unread_of self.old)) }
+        ensures { ReadsTokens self.old self.new ((expr_of result ≡ look (name_of table.entry) (expr_of index.entry)) × (unread_of self.new ≡ unread_of self.old)) }
     {
         match self.faults.boxed(index) {
             Some(index) => Expr::Look { table, index },
@@ -137,7 +137,7 @@ impl<'a, 't> Parser<'a, 't> {
     }
 
     fn has(&mut self, hold: Name<'a>, size: Expr<'a>, place: Place) -> Expr<'a>
-        ensures { Reads self.old self.new ((expr_of result ≡ has (name_of hold.entry) (expr_of size.entry)) × (unread_of self.new ≡ unread_of self.old)) }
+        ensures { ReadsTokens self.old self.new ((expr_of result ≡ has (name_of hold.entry) (expr_of size.entry)) × (unread_of self.new ≡ unread_of self.old)) }
     {
         match self.faults.boxed(size) {
             Some(size) => Expr::Has { hold, size, place },

@@ -1,7 +1,7 @@
 //! What is wrong with a text first.
 
 ghost use Rattle.std.specs.Prelude.{◌≡◌, ◌⊎◌, ◌∷◌, [], ◌++◌, IsTrue, IsSome, MatchOption, MatchResult, is_some, true, not, ◌||◌};
-ghost use Rattle.author_text.specs.Reading.{IsOut, Keeps, fault_of};
+ghost use Rattle.author_text.specs.Reading.{IsOut, KeepsFault, fault_of};
 
 use crate::place::Place;
 use crate::refusal::Refusal;
@@ -80,7 +80,7 @@ impl Faults {
     pub fn no_memory(&mut self)
         ensures whole { IsTrue self.new.is_whole → ⊥ }
         ensures out { fault_of self.old ≡ None → IsOut self.new }
-        ensures kept { Keeps self.old self.new }
+        ensures kept { KeepsFault self.old self.new }
         ensures found { is_some (fault_of self.new) ≡ true }
     {
         self.is_whole = false;
@@ -91,7 +91,7 @@ impl Faults {
     pub fn add(&mut self, place: Place, said: Result<String, AllocError>)
         ensures whole { IsTrue self.new.is_whole → IsTrue self.old.is_whole }
         ensures some { IsTrue self.new.is_whole → IsSome self.new.first }
-        ensures kept { Keeps self.old self.new }
+        ensures kept { KeepsFault self.old self.new }
         ensures found { is_some (fault_of self.new) ≡ true }
     {
         match said {
@@ -112,7 +112,7 @@ impl Faults {
     pub fn says(&mut self, place: Place, what: &str)
         ensures whole { IsTrue self.new.is_whole → IsTrue self.old.is_whole }
         ensures some { IsTrue self.new.is_whole → IsSome self.new.first }
-        ensures kept { Keeps self.old self.new }
+        ensures kept { KeepsFault self.old self.new }
         ensures found { is_some (fault_of self.new) ≡ true }
     {
         let said = String::from_str(self.alloc, what);
@@ -123,7 +123,7 @@ impl Faults {
     pub fn says_of(&mut self, place: Place, before: &[&str], word: &[u8], after: &str)
         ensures whole { IsTrue self.new.is_whole → IsTrue self.old.is_whole }
         ensures some { IsTrue self.new.is_whole → IsSome self.new.first }
-        ensures kept { Keeps self.old self.new }
+        ensures kept { KeepsFault self.old self.new }
         ensures found { is_some (fault_of self.new) ≡ true }
     {
         let said = joined(self.alloc, before, word, after);
@@ -136,7 +136,7 @@ impl Faults {
         ensures whole { IsTrue self.new.is_whole → IsTrue self.old.is_whole }
         ensures same { IsTrue self.new.is_whole → self.new ≡ self.old }
         ensures added { IsTrue self.new.is_whole → list.new.items ≡ list.old.items ++ item ∷ [] }
-        ensures kept { Keeps self.old self.new }
+        ensures kept { KeepsFault self.old self.new }
         ensures grown { fault_of self.old ≡ None → IsOut self.new ⊎ ((fault_of self.new ≡ None) × (list.new.items ≡ list.old.items ++ item ∷ [])) }
     {
         if list.push(item).is_err() {
@@ -160,7 +160,7 @@ impl Faults {
         ensures whole { IsTrue self.new.is_whole → IsTrue self.old.is_whole }
         ensures same { IsTrue self.new.is_whole → self.new ≡ self.old }
         ensures made { MatchOption result (IsTrue self.new.is_whole → ⊥) (λ place. place.value ≡ value) }
-        ensures kept { Keeps self.old self.new }
+        ensures kept { KeepsFault self.old self.new }
     {
         match Box::new(self.alloc, value) {
             Ok(place) => Some(place),

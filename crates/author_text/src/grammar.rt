@@ -6,9 +6,9 @@ ghost use Rattle.author_text.specs.ReadSource.{ends_decls, event_among, event_in
 ghost use Rattle.author_text.specs.ReadSource.{read_filter, read_filter_name, read_handler, read_handlers, read_hold, read_limit, read_number, read_other_trigger};
 ghost use Rattle.author_text.specs.ReadSource.{read_param, read_setting, read_table, read_trigger, read_var};
 ghost use Rattle.author_text.specs.ReadTexts.{read_items, read_list, read_listed, read_name_is};
-ghost use Rattle.author_text.specs.Reading.{Reads, ReadsAs, unread_of};
+ghost use Rattle.author_text.specs.Reading.{ReadsTokens, ReadsAs, unread_of};
 ghost use Rattle.author_text.specs.Trees.{decl_of, expr_of, handler_of, name_of, source_of, trigger_of};
-ghost use Rattle.author_text.specs.Unread.{needed, next_token};
+ghost use Rattle.author_text.specs.UnreadTokens.{needed, next_token};
 
 use crate::parser::Parser;
 use crate::source::{Decl, Def, Expr, Handler, Name, Setting, Source, Trigger};
@@ -128,7 +128,7 @@ impl<'a, 't> Parser<'a, 't> {
 
     /// Passes `on`, which must be next.
     fn need_on(&mut self)
-        ensures { Reads self.old self.new (unread_of self.new ≡ needed (codes "on") (unread_of self.old)) }
+        ensures { ReadsTokens self.old self.new (unread_of self.new ≡ needed (codes "on") (unread_of self.old)) }
     {
         if !self.eat("on") {
             self.says_of(
@@ -185,7 +185,7 @@ impl<'a, 't> Parser<'a, 't> {
 
     /// Passes `match`, which must be next.
     fn need_match(&mut self)
-        ensures { Reads self.old self.new (unread_of self.new ≡ needed (codes "match") (unread_of self.old)) }
+        ensures { ReadsTokens self.old self.new (unread_of self.new ≡ needed (codes "match") (unread_of self.old)) }
     {
         if !self.eat("match") {
             self.says_of(
@@ -273,7 +273,7 @@ impl<'a, 't> Parser<'a, 't> {
     /// Passes the name `most`, which is a word of the language here alone, and must be next.
     #[tactic(auto, unfolding(crate::specs::ReadSource::needed_most))]
     fn need_most(&mut self)
-        ensures { Reads self.old self.new (unread_of self.new ≡ needed_most (unread_of self.old)) }
+        ensures { ReadsTokens self.old self.new (unread_of self.new ≡ needed_most (unread_of self.old)) }
     {
         let token = self.token();
         if matches!(token.kind, Kind::Name) && token.text == b"most".as_slice() {
@@ -303,7 +303,7 @@ impl<'a, 't> Parser<'a, 't> {
 
     /// Passes `def`, which must be next.
     fn need_def(&mut self)
-        ensures { Reads self.old self.new (unread_of self.new ≡ needed (codes "def") (unread_of self.old)) }
+        ensures { ReadsTokens self.old self.new (unread_of self.new ≡ needed (codes "def") (unread_of self.old)) }
     {
         if !self.eat("def") {
             self.due(

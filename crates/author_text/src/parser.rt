@@ -3,9 +3,9 @@
 ghost use Rattle.std.specs.Prelude.{◌≡◌, ◌+◌, ◌∷◌, [], ◌++◌, length, map, IsTrue};
 ghost use Rattle.author_text.specs.Escapes.{spelled_bytes};
 ghost use Rattle.author_text.specs.ReadTexts.{read_name_behind, read_quoted, read_text};
-ghost use Rattle.author_text.specs.Reading.{Reads, ReadsAs, unread_of};
+ghost use Rattle.author_text.specs.Reading.{ReadsTokens, ReadsAs, unread_of};
 ghost use Rattle.author_text.specs.Tokens.{end_token, token_of};
-ghost use Rattle.author_text.specs.Unread.{next_token, passed, refused, is_at, no_comma, is_end_token, is_quoted_token, eaten, needed, read_name, read_new_name, read_hold_or_it, unhyphened};
+ghost use Rattle.author_text.specs.UnreadTokens.{next_token, passed, refused, is_at, no_comma, is_end_token, is_quoted_token, eaten, needed, read_name, read_new_name, read_hold_or_it, unhyphened};
 ghost use Rattle.author_text.specs.Trees.{name_of, names_of, text_of};
 
 use crate::escape::push_bytes;
@@ -80,7 +80,7 @@ impl<'a, 't> Parser<'a, 't> {
 
     /// The next token, which is passed.
     pub fn take(&mut self) -> Token<'a>
-        ensures { Reads self.old self.new ((token_of result ≡ next_token (unread_of self.old)) × (unread_of self.new ≡ passed (unread_of self.old))) }
+        ensures { ReadsTokens self.old self.new ((token_of result ≡ next_token (unread_of self.old)) × (unread_of self.new ≡ passed (unread_of self.old))) }
     {
         let token = self.token();
         self.pass();
@@ -89,7 +89,7 @@ impl<'a, 't> Parser<'a, 't> {
 
     /// Passes the next token, if one is left.
     fn pass(&mut self)
-        ensures { Reads self.old self.new (unread_of self.new ≡ passed (unread_of self.old)) }
+        ensures { ReadsTokens self.old self.new (unread_of self.new ≡ passed (unread_of self.old)) }
     {
         if self.next < self.tokens.len() {
             self.next += 1;
@@ -118,7 +118,7 @@ impl<'a, 't> Parser<'a, 't> {
 
     /// Passes this word or mark, if it is next.
     pub fn eat(&mut self, text: &str) -> bool
-        ensures { Reads self.old self.new ((result ≡ is_at (next_token (unread_of self.old)) text.now) × (unread_of self.new ≡ eaten text.now (unread_of self.old))) }
+        ensures { ReadsTokens self.old self.new ((result ≡ is_at (next_token (unread_of self.old)) text.now) × (unread_of self.new ≡ eaten text.now (unread_of self.old))) }
     {
         let is_next = self.at(text);
         if is_next {
@@ -139,7 +139,7 @@ impl<'a, 't> Parser<'a, 't> {
 
     /// What is wrong with the next token.
     pub fn says(&mut self, what: &str)
-        ensures { Reads self.old self.new (unread_of self.new ≡ refused (unread_of self.old)) }
+        ensures { ReadsTokens self.old self.new (unread_of self.new ≡ refused (unread_of self.old)) }
     {
         let place = self.token().place;
         self.faults.says(place, what);
@@ -147,7 +147,7 @@ impl<'a, 't> Parser<'a, 't> {
 
     /// What is wrong with the next token, which stands between these words.
     pub fn says_of(&mut self, before: &[&str], after: &str)
-        ensures { Reads self.old self.new (unread_of self.new ≡ refused (unread_of self.old)) }
+        ensures { ReadsTokens self.old self.new (unread_of self.new ≡ refused (unread_of self.old)) }
     {
         let place = self.token().place;
         let shown = self.shown();
@@ -156,7 +156,7 @@ impl<'a, 't> Parser<'a, 't> {
 
     /// Refuses a comma, as one writes it in long numbers.
     fn check_comma(&mut self)
-        ensures { Reads self.old self.new (unread_of self.new ≡ no_comma (unread_of self.old)) }
+        ensures { ReadsTokens self.old self.new (unread_of self.new ≡ no_comma (unread_of self.old)) }
     {
         if self.at(",") {
             self.says("no `,` may stand here: a number has digits alone, as 2000");
@@ -165,28 +165,28 @@ impl<'a, 't> Parser<'a, 't> {
 
     /// What is wrong at a place before the next token.
     pub fn says_at(&mut self, place: Place, what: &str)
-        ensures { Reads self.old self.new (unread_of self.new ≡ refused (unread_of self.old)) }
+        ensures { ReadsTokens self.old self.new (unread_of self.new ≡ refused (unread_of self.old)) }
     {
         self.faults.says(place, what);
     }
 
     /// What is wrong with a word at a place before the next token, which stands between these words.
     pub fn says_word(&mut self, place: Place, before: &[&str], word: &[u8], after: &str)
-        ensures { Reads self.old self.new (unread_of self.new ≡ refused (unread_of self.old)) }
+        ensures { ReadsTokens self.old self.new (unread_of self.new ≡ refused (unread_of self.old)) }
     {
         self.faults.says_of(place, before, word, after);
     }
 
     /// Adds an item to a list, where there is memory for it.
     pub fn append<T: Drop>(&mut self, list: &mut Vec<T>, item: T)
-        ensures { Reads self.old self.new ((list.new.items ≡ list.old.items ++ item ∷ []) × (unread_of self.new ≡ unread_of self.old)) }
+        ensures { ReadsTokens self.old self.new ((list.new.items ≡ list.old.items ++ item ∷ []) × (unread_of self.new ≡ unread_of self.old)) }
     {
         self.faults.append(list, item);
     }
 
     /// Something is due in place of the next token.
     pub fn due(&mut self, due: &str)
-        ensures { Reads self.old self.new (unread_of self.new ≡ refused (unread_of self.old)) }
+        ensures { ReadsTokens self.old self.new (unread_of self.new ≡ refused (unread_of self.old)) }
     {
         self.check_comma();
         self.says_of(&[due, " is due here, not `"], "`");
@@ -194,14 +194,14 @@ impl<'a, 't> Parser<'a, 't> {
 
     /// So much stands in one another at the next token that no more may.
     pub fn too_deep(&mut self)
-        ensures { Reads self.old self.new (unread_of self.new ≡ refused (unread_of self.old)) }
+        ensures { ReadsTokens self.old self.new (unread_of self.new ≡ refused (unread_of self.old)) }
     {
         self.says("too much stands in one another here");
     }
 
     /// Passes this word or mark, which must be next.
     pub fn need(&mut self, text: &str)
-        ensures { Reads self.old self.new (unread_of self.new ≡ needed text.now (unread_of self.old)) }
+        ensures { ReadsTokens self.old self.new (unread_of self.new ≡ needed text.now (unread_of self.old)) }
     {
         if !self.eat(text) {
             self.refuse(text);
@@ -210,7 +210,7 @@ impl<'a, 't> Parser<'a, 't> {
 
     /// What is wrong where this word or mark is not next.
     fn refuse(&mut self, text: &str)
-        ensures { Reads self.old self.new (unread_of self.new ≡ refused (unread_of self.old)) }
+        ensures { ReadsTokens self.old self.new (unread_of self.new ≡ refused (unread_of self.old)) }
     {
         if text == "{" && self.at("=") {
             self.says("numbers are compared with `==`");
@@ -220,7 +220,7 @@ impl<'a, 't> Parser<'a, 't> {
     }
 
     /// The name that must be next.
-    #[tactic(auto, unfolding(crate::specs::Unread::read_name))]
+    #[tactic(auto, unfolding(crate::specs::UnreadTokens::read_name))]
     pub fn name(&mut self, due: &str) -> Name<'a>
         ensures { ReadsAs self.old self.new (name_of result) (read_name (unread_of self.old)) }
     {
@@ -241,7 +241,7 @@ impl<'a, 't> Parser<'a, 't> {
     }
 
     /// The name that must be next, and that is declared here.
-    #[tactic(auto, unfolding(crate::specs::Unread::read_new_name))]
+    #[tactic(auto, unfolding(crate::specs::UnreadTokens::read_new_name))]
     pub fn new_name(&mut self, due: &str) -> Name<'a>
         ensures { ReadsAs self.old self.new (name_of result) (read_new_name (unread_of self.old)) }
     {
@@ -252,7 +252,7 @@ impl<'a, 't> Parser<'a, 't> {
 
     /// Refuses a hyphen behind a name that is declared.
     pub fn check_hyphen(&mut self)
-        ensures { Reads self.old self.new (unread_of self.new ≡ unhyphened (unread_of self.old)) }
+        ensures { ReadsTokens self.old self.new (unread_of self.new ≡ unhyphened (unread_of self.old)) }
     {
         if self.at("-") {
             self.says("a name has letters, digits and `_`, and no `-`");
@@ -260,7 +260,7 @@ impl<'a, 't> Parser<'a, 't> {
     }
 
     /// The name of a hold, or `it`, which is no name.
-    #[tactic(auto, unfolding(crate::specs::Unread::read_hold_or_it))]
+    #[tactic(auto, unfolding(crate::specs::UnreadTokens::read_hold_or_it))]
     pub fn hold_or_it(&mut self) -> Option<Name<'a>>
         ensures { ReadsAs self.old self.new (names_of result) (read_hold_or_it (unread_of self.old)) }
     {
@@ -283,7 +283,7 @@ impl<'a, 't> Parser<'a, 't> {
 
     /// Adds the bytes of a text in quotes.
     fn push_text(&mut self, bytes: &mut Vec<u8>, text: &[u8])
-        ensures { Reads self.old self.new ((bytes.new.items ≡ bytes.old.items ++ spelled_bytes 0 text.now) × (unread_of self.new ≡ unread_of self.old)) }
+        ensures { ReadsTokens self.old self.new ((bytes.new.items ≡ bytes.old.items ++ spelled_bytes 0 text.now) × (unread_of self.new ≡ unread_of self.old)) }
     {
         if push_bytes(bytes, text).is_err() {
             self.faults.no_memory();

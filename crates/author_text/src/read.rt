@@ -6,7 +6,7 @@ ghost use Rattle.author_text.specs.ReadAgain.{HasTree, ReadsPrinted};
 ghost use Rattle.author_text.specs.ReadSource.{read_filter};
 ghost use Rattle.author_text.specs.Tokens.{end_token, token_of};
 ghost use Rattle.author_text.specs.Trees.{SourceTree, source_of};
-ghost use Rattle.author_text.specs.Unread.{end_alone, tokens_at};
+ghost use Rattle.author_text.specs.UnreadTokens.{end_alone, tokens_at};
 
 use crate::parser::Parser;
 use crate::place::Place;

@@ -4,7 +4,7 @@ ghost use Rattle.std.specs.Prelude.{◌≡◌, ◌≤◌, ◌<◌, ◌⊎◌, []
 ghost use Rattle.std.specs.Char.{digit_value, is_ascii_hexdigit};
 ghost use Rattle.std.specs.List.{list_all, prefix_len};
 ghost use Rattle.author_text.specs.Escapes.{may_stand};
-ghost use Rattle.author_text.specs.Reading.{Keeps, fault_of};
+ghost use Rattle.author_text.specs.Reading.{KeepsFault, fault_of};
 ghost use Rattle.author_text.specs.Scanning.{Advances, FindsAll, JudgesText, TakesPiece, is_at_token, is_clean, is_of, is_wrong, len_to_quote, text_piece};
 ghost use Rattle.author_text.specs.TextTokens.{byte_front, byte_piece, hex_len, is_line_end, is_quote, mark_front, name_front};
 ghost use Rattle.author_text.specs.TextTokens.{number_below, number_front, number_piece, text_front, token_front, tokens_behind, tokens_of};
@@ -161,7 +161,7 @@ impl<'a> Scanner<'a> {
     }
 
     fn says(&mut self, what: &str)
-        ensures kept { Keeps self.old.faults self.new.faults }
+        ensures kept { KeepsFault self.old.faults self.new.faults }
         ensures found { is_some (fault_of self.new.faults) ≡ true }
         ensures rest { self.new.rest.now ≡ self.old.rest.now }
     {
@@ -170,7 +170,7 @@ impl<'a> Scanner<'a> {
 
     /// Goes past the blank, the line end or the comment that stands first, if one does.
     fn skip_blank(&mut self) -> bool
-        ensures kept { Keeps self.old.faults self.new.faults }
+        ensures kept { KeepsFault self.old.faults self.new.faults }
         ensures passed { (fault_of self.old.faults) ≡ None → result ≡ true
             → JudgesText self.new.faults self.old.rest.now (tokens_behind 0 self.old.rest.now ≡ tokens_behind 0 self.new.rest.now) }
         ensures shorter { result ≡ true → length self.new.rest.now < length self.old.rest.now }
@@ -201,7 +201,7 @@ impl<'a> Scanner<'a> {
     fn skip_blanks(&mut self)
         ensures passed { (fault_of self.old.faults) ≡ None
             → JudgesText self.new.faults self.old.rest.now (tokens_behind 0 self.old.rest.now ≡ tokens_behind 0 self.new.rest.now) }
-        ensures kept { Keeps self.old.faults self.new.faults }
+        ensures kept { KeepsFault self.old.faults self.new.faults }
         ensures done { is_at_token self.new.rest.now ≡ true }
         ensures shorter { length self.new.rest.now ≤ length self.old.rest.now }
     {
@@ -213,7 +213,7 @@ impl<'a> Scanner<'a> {
     }
 
     fn skip_comment(&mut self)
-        ensures kept { Keeps self.old.faults self.new.faults }
+        ensures kept { KeepsFault self.old.faults self.new.faults }
         ensures rest { self.new.rest.now ≡ drop (prefix_len may_stand self.old.rest.now) self.old.rest.now }
         ensures clear { is_line_end self.new.rest.now ≡ true → self.new.faults ≡ self.old.faults }
         ensures found { is_line_end self.new.rest.now ≡ false → is_some (fault_of self.new.faults) ≡ true }
@@ -226,7 +226,7 @@ impl<'a> Scanner<'a> {
 
     /// A byte that is no part of a token, or that may not be written.
     fn strange_byte(&mut self, before: &str)
-        ensures kept { Keeps self.old.faults self.new.faults }
+        ensures kept { KeepsFault self.old.faults self.new.faults }
         ensures found { is_some (fault_of self.new.faults) ≡ true }
         ensures rest { self.new.rest.now ≡ self.old.rest.now }
     {
@@ -266,7 +266,7 @@ impl<'a> Scanner<'a> {
 
     /// What is wrong with an escape, so many bytes behind.
     fn no_escape(&mut self, count: usize, letter: u8)
-        ensures kept { Keeps self.old.faults self.new.faults }
+        ensures kept { KeepsFault self.old.faults self.new.faults }
         ensures found { is_some (fault_of self.new.faults) ≡ true }
         ensures rest { self.new.rest.now ≡ self.old.rest.now }
     {
@@ -277,7 +277,7 @@ impl<'a> Scanner<'a> {
 
     /// Checks that a byte of a text, which so many bytes spell, may stand there.
     fn check_byte(&mut self, byte: u8, len: usize, count: usize)
-        ensures kept { Keeps self.old.faults self.new.faults }
+        ensures kept { KeepsFault self.old.faults self.new.faults }
         ensures rest { self.new.rest.now ≡ self.old.rest.now }
         ensures clear { is_wrong (Spelled.Byte byte len) ≡ false → self.new.faults ≡ self.old.faults }
         ensures found { is_wrong (Spelled.Byte byte len) ≡ true → is_some (fault_of self.new.faults) ≡ true }
@@ -290,7 +290,7 @@ impl<'a> Scanner<'a> {
 
     /// Checks that each byte of what stands in quotes is spelled well.
     fn check_text(&mut self, text: &[u8])
-        ensures kept { Keeps self.old.faults self.new.faults }
+        ensures kept { KeepsFault self.old.faults self.new.faults }
         ensures rest { self.new.rest.now ≡ self.old.rest.now }
         ensures clear { is_clean 0 text.now ≡ true → self.new.faults ≡ self.old.faults }
         ensures found { is_clean 0 text.now ≡ false → is_some (fault_of self.new.faults) ≡ true }
@@ -408,7 +408,7 @@ impl<'a> Scanner<'a> {
 
     /// Appends the token that stands first behind blanks, if one does.
     fn next_token(&mut self, found: &mut Vec<Token<'a>>) -> bool
-        ensures kept { Keeps self.old.faults self.new.faults }
+        ensures kept { KeepsFault self.old.faults self.new.faults }
         ensures passed { (fault_of self.old.faults) ≡ None
             → JudgesText self.new.faults self.old.rest.now (Advances result found.old.items found.new.items self.old.rest.now self.new.rest.now) }
     {
@@ -423,7 +423,7 @@ impl<'a> Scanner<'a> {
 
     /// Appends all tokens that are left.
     fn all_tokens(&mut self, found: &mut Vec<Token<'a>>)
-        ensures kept { Keeps self.old.faults self.new.faults }
+        ensures kept { KeepsFault self.old.faults self.new.faults }
         ensures passed { (fault_of self.old.faults) ≡ None
             → JudgesText self.new.faults self.old.rest.now (FindsAll found.old.items found.new.items self.old.rest.now) }
     {

@@ -7,9 +7,9 @@ ghost use Rattle.author_text.specs.ReadStmts.{ends_block, is_else_if, no_block, 
 ghost use Rattle.author_text.specs.ReadStmts.{read_copied, read_cut, read_decimal, read_drop, read_emit, read_keep, read_let, read_log, read_number_or_part};
 ghost use Rattle.author_text.specs.ReadStmts.{read_other, read_plain, read_run, read_set, read_set_or_run, read_spoken, read_stmt, read_thing, read_walk, read_worded};
 ghost use Rattle.author_text.specs.ReadTexts.{read_items, read_list, read_listed};
-ghost use Rattle.author_text.specs.Reading.{Reads, ReadsAs, unread_of};
+ghost use Rattle.author_text.specs.Reading.{ReadsTokens, ReadsAs, unread_of};
 ghost use Rattle.author_text.specs.Trees.{body_of, choice, expr_of, name_of, names_of, plain, repeat, stmt_of, thing_of, walk};
-ghost use Rattle.author_text.specs.Unread.{refused};
+ghost use Rattle.author_text.specs.UnreadTokens.{refused};
 
 use crate::parser::Parser;
 use crate::place::Place;
@@ -320,7 +320,7 @@ impl<'a, 't> Parser<'a, 't> {
 
     /// Refuses a block behind a name that is written for `else if` elsewhere.
     fn check_block(&mut self, name: Name<'a>)
-        ensures { Reads self.old self.new (unread_of self.new ≡ no_block (name_of name.entry) (unread_of self.old)) }
+        ensures { ReadsTokens self.old self.new (unread_of self.new ≡ no_block (name_of name.entry) (unread_of self.old)) }
     {
         if self.at("{") && is_else_if(name.text) {
             self.says_at(name.place, "write `else if`");
@@ -343,7 +343,7 @@ impl<'a, 't> Parser<'a, 't> {
 
     /// Refuses `++` and `--` at this place behind a name.
     fn check_step(&mut self, name: Name<'a>, place: Place)
-        ensures { Reads self.old self.new ((unread_of self.new).operators ≡ (unread_of self.old).operators) }
+        ensures { ReadsTokens self.old self.new ((unread_of self.new).operators ≡ (unread_of self.old).operators) }
     {
         if self.eat("+") && self.at("+") {
             self.says_word(place, &["write `"], name.text, " += 1`");
@@ -487,7 +487,7 @@ impl<'a, 't> Parser<'a, 't> {
 
     /// Refuses a word that begins no statement.
     fn check_log(&mut self, word: Token<'a>)
-        ensures { Reads self.old self.new (unread_of self.new ≡ only_log word.entry.text.now (unread_of self.old)) }
+        ensures { ReadsTokens self.old self.new (unread_of self.new ≡ only_log word.entry.text.now (unread_of self.old)) }
     {
         if !is(word, "log") {
             self.no_stmt(word);
@@ -496,7 +496,7 @@ impl<'a, 't> Parser<'a, 't> {
 
     /// No statement begins with this word.
     fn no_stmt(&mut self, word: Token<'a>)
-        ensures { Reads self.old self.new (unread_of self.new ≡ refused (unread_of self.old)) }
+        ensures { ReadsTokens self.old self.new (unread_of self.new ≡ refused (unread_of self.old)) }
     {
         if is(word, "return") {
             self.says_at(word.place, "`return` begins no statement: write `next`");

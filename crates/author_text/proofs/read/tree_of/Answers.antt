@@ -1,7 +1,7 @@
 use Rattle.std.proofs.Common.{◌≡◌, map, ap, ◌∙◌}
 use Rattle.author_text.specs.ReadSource.{read_filter}
 use Rattle.author_text.specs.Tokens.{token_of}
-use Rattle.author_text.specs.Unread.{tokens_at}
+use Rattle.author_text.specs.UnreadTokens.{tokens_at}
 use Rattle.author_text.proofs.AgainLaws.{printed_found, printed_refused}
 use Rattle.author_text.proofs.read.tree_of.Goals as goal
 

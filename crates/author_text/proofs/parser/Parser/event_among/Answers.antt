@@ -1,7 +1,7 @@
 use Rattle.std.proofs.Common.{sym, ap, ◌∙◌}
 use Rattle.author_text.specs.PrintedSource.{event_text}
 use Rattle.author_text.specs.Reading.{unread_of}
-use Rattle.author_text.specs.Unread.{next_token, is_at}
+use Rattle.author_text.specs.UnreadTokens.{next_token, is_at}
 use Rattle.author_text.proofs.FindLaws.{find_found, find_passed, find_past}
 use Rattle.author_text.proofs.parser.Parser.event_among.Goals as goal
 

@@ -1,5 +1,5 @@
 use Rattle.std.proofs.Common.{ap, ◌∙◌}
-use Rattle.author_text.specs.Unread.{tokens_at}
+use Rattle.author_text.specs.UnreadTokens.{tokens_at}
 use Rattle.author_text.proofs.ReadExprLaws.{expr_again}
 use Rattle.author_text.proofs.ReadingLaws.{uncounted}
 use Rattle.author_text.proofs.parser.Parser.expr.Goals as goal

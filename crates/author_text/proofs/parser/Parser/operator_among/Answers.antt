@@ -2,7 +2,7 @@ use Rattle.std.proofs.Common.{◌≡◌, arith}
 use Rattle.author_text.specs.declared.source.BinaryOp.TheVariants as op
 use Rattle.author_text.specs.ReadExprs.{operator_among}
 use Rattle.author_text.specs.Reading.{unread_of}
-use Rattle.author_text.specs.Unread.{next_token}
+use Rattle.author_text.specs.UnreadTokens.{next_token}
 use Rattle.author_text.proofs.OperatorLaws.{operator_found, operator_passed, operator_past}
 use Rattle.author_text.proofs.parser.Parser.operator_among.Goals.{else-rank-via-then-rank+else-at, else-rank-via-else-rank}
 use Rattle.author_text.proofs.parser.Parser.operator_among.Goals as goal

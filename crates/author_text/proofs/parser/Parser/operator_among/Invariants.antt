@@ -1,7 +1,7 @@
 use Rattle.std.proofs.Common.{◌≡◌, IsTrue, drop}
 use Rattle.author_text.specs.ReadExprs.{operator_among}
 use Rattle.author_text.specs.Reading.{unread_of}
-use Rattle.author_text.specs.Unread.{next_token}
+use Rattle.author_text.specs.UnreadTokens.{next_token}
 use Rattle.author_text.proofs.parser.Parser.operator_among.Given as goal
 
 abbrev pub invariant-loop-op : goal.invariant-loop-op
