@@ -13,7 +13,7 @@ import os
 import sys
 import tempfile
 
-from steps import BUILT, TOP, built
+from steps import BUILT, MOST, TOP, built, filters, script
 
 import broken
 import refusals
@@ -23,6 +23,9 @@ def scripts(words):
     """The scripts, by name."""
     if words[:1] == ['--broken']:
         yield from ((name, script) for name, script, _ in broken.scripts() if not name.startswith('without'))
+        return
+    if words[:1] == ['--filters']:
+        yield from ((name, script(filters.text_of(path), MOST, 1, 3000).encode('latin-1')) for name, path in filters.filters())
         return
     names = words or [name for folder in ('examples', 'tests/cases') for name in sorted(glob.glob(os.path.join(TOP, folder, '*.script')))]
     for name in names:

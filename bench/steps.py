@@ -26,11 +26,16 @@ def built(program):
     return os.path.abspath(program)
 
 
-def played(program, module, budget, requests):
-    """The answers of a script in which a page is sent so many times, and the time that it took."""
+def script(module, budget, requests, size=SIZE):
+    """A script in which so many bytes of a page are sent so many times."""
     lines = ['budget %d' % budget, 'file a %d %s' % (LINES, filters.quoted(LINE)), 'open', 'run 1']
-    lines += ['begin 1', 'run 1', 'bring 1 file a 0 %d eos' % SIZE, 'run 1', 'end 1'] * requests
-    text = module + '\n'.join(lines) + '\n'
+    lines += ['begin 1', 'run 1', 'bring 1 file a 0 %d eos' % size, 'run 1', 'end 1'] * requests
+    return module + '\n'.join(lines) + '\n'
+
+
+def played(program, module, budget, requests):
+    """The answers of such a script, and the time that it took."""
+    text = script(module, budget, requests)
     start = time.perf_counter()
     done = subprocess.run([program], input=text.encode(), capture_output=True)
     return done.stdout.decode().splitlines(), time.perf_counter() - start

@@ -1,6 +1,6 @@
 """Random scripts with a loop over the bytes of buckets, for compare.py --loops.
 
-A loop begins with `get`, and is one that the program may carry out by a table or by traces: it adds, compares and puts. Budgets end at any step of
+A loop begins with `get`, and is one that the program may carry out by a table or an automaton: it adds, compares and puts. Budgets end at any step of
 a round, mostly at one of the last ones; buckets have none, one or 8,001 bytes, and such numbers as a walk begins with; buffers are near their
 end, and numbers near the last one. What the numbers are at the end is put, bit by bit.
 """
