@@ -52,15 +52,15 @@ left_same reached p (Some q) apart = by_test (reached q) refl where
   by_test true is = sym (once_off q p (λ e. absurd (let two : false ≡ true = sym apart ∙ (ap reached e ∙ is) in cc)))
   by_test false is = refl
 
-left_there : (reached : ℕ → Bool) (named : Bool) (p : ℕ) (on : Option ℕ) (o : Option Items) → (on ≡ Some p → is_some o ≡ true) → pool_left reached on ≡ Some p
-    → is_some (cleared_ring reached named on o) ≡ true
-left_there reached named p None o there kept = cc
-left_there reached named p (Some q) None there kept = there (by_test (reached q) kept) where
+left_there : (reached : ℕ → Bool) (p : ℕ) (on : Option ℕ) (o : Option Items) → (on ≡ Some p → is_some o ≡ true) → pool_left reached on ≡ Some p
+    → is_some (cleared_ring reached on o) ≡ true
+left_there reached p None o there kept = cc
+left_there reached p (Some q) None there kept = there (by_test (reached q) kept) where
   by_test : (b : Bool) → cond b None (Some q) ≡ Some p → Some q ≡ Some p
   by_test true e = absurd (cc)
   by_test false e = e
-left_there reached named p (Some q) (Some xs) there kept = by_test (reached q) kept where
-  by_test : (b : Bool) → cond b None (Some q) ≡ Some p → is_some (cond b None (Some (cleared_items reached named xs))) ≡ true
+left_there reached p (Some q) (Some xs) there kept = by_test (reached q) kept where
+  by_test : (b : Bool) → cond b None (Some q) ≡ Some p → is_some (cond b None (Some (cleared_items reached xs))) ≡ true
   by_test true e = absurd (cc)
   by_test false e = refl
 
@@ -99,14 +99,14 @@ module _ {pool : ℕ} {ps new : Pools Payload} {lists : ℕ → Option Items} {p
   left_over : (f now : ℕ) → now + refs_in f handed ≡ references f → now ≡ all_refs new f
   left_over f now e = omega (arith, e, before f)
 
-  pub lists_left : (n : ℕ) (named : Bool) (ms : List Morph) (now : Option Items) → now ≡ cond (list_any (λ (x : ℕ × Payload). is_brigade n x.1) handed) None (option_map (all_morphed ms) (lists n))
-      → option_map (all_morphed ms) (lists n) ≡ option_map (cleared_items (is_under ps pool) named) (lists n) → now ≡ cleared_ring (is_under ps pool) named (pool_of n) (lists n)
-  lists_left n named ms now is plan =
+  pub lists_left : (n : ℕ) (ms : List Morph) (now : Option Items) → now ≡ cond (list_any (λ (x : ℕ × Payload). is_brigade n x.1) handed) None (option_map (all_morphed ms) (lists n))
+      → option_map (all_morphed ms) (lists n) ≡ option_map (cleared_items (is_under ps pool)) (lists n) → now ≡ cleared_ring (is_under ps pool) (pool_of n) (lists n)
+  lists_left n ms now is plan =
       is ∙ (ap (λ (o : Option Items). cond (list_any (λ (x : ℕ × Payload). is_brigade n x.1) handed) None o) plan
-      ∙ (ap (λ (b : Bool). cond b None (option_map (cleared_items (is_under ps pool) named) (lists n))) (gone_with n)
+      ∙ (ap (λ (b : Bool). cond b None (option_map (cleared_items (is_under ps pool)) (lists n))) (gone_with n)
       ∙ by_list (lists n))) where
         by_list : (o : Option Items)
-            → cond (is_reached (is_under ps pool) (pool_of n)) None (option_map (cleared_items (is_under ps pool) named) o) ≡ cleared_ring (is_under ps pool) named (pool_of n) o
+            → cond (is_reached (is_under ps pool) (pool_of n)) None (option_map (cleared_items (is_under ps pool)) o) ≡ cleared_ring (is_under ps pool) (pool_of n) o
         by_list None = both (is_reached (is_under ps pool) (pool_of n))
         by_list (Some xs) = refl
 
@@ -125,16 +125,16 @@ module _ {pool : ℕ} {ps new : Pools Payload} {lists : ℕ → Option Items} {p
       ∙ ap (λ (xs : List (ℕ × Payload)). cond (list_any (λ (x : ℕ × Payload). is_file_ref f x.1) xs && not (is_referred new f)) Missing held) went.ran)
 
   -- Where a brigade was on a pool that is left, it is there still.
-  pub house_left : (lists_now : ℕ → Option Items) (pools_now : ℕ → Option ℕ) (left : ℕ → ℕ) (named : ℕ → Bool)
-      → ((n : ℕ) → lists_now n ≡ cleared_ring (is_under ps pool) (named n) (pool_of n) (lists n)) → ((n : ℕ) → pools_now n ≡ pool_left (is_under ps pool) (pool_of n))
+  pub house_left : (lists_now : ℕ → Option Items) (pools_now : ℕ → Option ℕ) (left : ℕ → ℕ)
+      → ((n : ℕ) → lists_now n ≡ cleared_ring (is_under ps pool) (pool_of n) (lists n)) → ((n : ℕ) → pools_now n ≡ pool_left (is_under ps pool) (pool_of n))
       → ((f : ℕ) → left f + refs_in f handed ≡ references f)
       → AreHoused lists_now pools_now left new
-  house_left lists_now pools_now left named out off sums = record {
+  house_left lists_now pools_now left out off sums = record {
     held = λ n p. elim (cases_Bool (is_under ps pool p)) [
       | inl under ↦ ap (held_count (is_brigade n)) (went.gone.gone p under) ∙ sym (ap (once_in p) (off n) ∙ left_none (is_under ps pool) p (pool_of n) under)
       | inr apart ↦ ap (held_count (is_brigade n)) (went.gone.kept p apart)
           ∙ (went.house.held n p ∙ sym (ap (once_in p) (off n) ∙ left_same (is_under ps pool) p (pool_of n) apart))
     ];
-    there = λ n p is. ap is_some (out n) ∙ left_there (is_under ps pool) (named n) p (pool_of n) (lists n) (went.house.there n p) (sym (off n) ∙ is);
+    there = λ n p is. ap is_some (out n) ∙ left_there (is_under ps pool) p (pool_of n) (lists n) (went.house.there n p) (sym (off n) ∙ is);
     referred = λ f. left_over f (left f) (sums f);
   }

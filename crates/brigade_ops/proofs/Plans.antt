@@ -1,11 +1,10 @@
 -- What is made ready for the buckets of brigades.
-use Rattle.std.proofs.Common.{◌≡◌, ◌≢◌, ◌==◌, ◌||◌, ◌⊎◌, ℕ, suc, ◌≤◌, Bool, true, false, cond, Option, None, Some, is_some, List, [], ◌∷◌, ◌++◌, refl, sym, ap, ◌∙◌, arith, inl, inr}
+use Rattle.std.proofs.Common.{◌≡◌, ◌≢◌, ◌⊎◌, ℕ, suc, ◌+◌, ◌≤◌, Bool, true, false, cond, nat_lt, Option, None, Some, is_some, List, [], ◌∷◌, ◌++◌, refl, sym, ap, ◌∙◌, arith, inl, inr}
 use Rattle.std.specs.Prelude.{IfSome}
 use Rattle.std.specs.List.{cons_option}
 use Rattle.std.specs.Option.{option_map, option_map_or}
-use Rattle.std.proofs.lemmas.Bool.{cases_Bool, cases_eq, eq-eqb}
+use Rattle.std.proofs.lemmas.Bool.{cases_Bool, cases_eq, lt-ltb, ltb-true, ltb_from_iff, false≢true}
 use Rattle.std.proofs.lemmas.List.{append-nil}
-use Rattle.std.proofs.lemmas.List.Folds.{list_any-append}
 use Rattle.bucket_ring.specs.declared.names.BucketId.{BucketId}
 use Rattle.bucket_ring.specs.Laws.{same_self, found_times}
 use Rattle.bucket_ring.specs.declared.rings.Rings.{Ghosts}
@@ -13,7 +12,6 @@ use Rattle.bucket_ring.specs.Lists.{list_at, same, times, found}
 use Rattle.bucket_kinds.specs.declared.stored.Stored.{Stored}
 use Rattle.run_model.specs.declared.bucket.Bucket.{Bucket}
 use Rattle.run_model.specs.Buckets.{to_heap}
-use Rattle.run_model.specs.Pools.{is_in}
 use Rattle.bucket_store.specs.declared.morph.Morph.{Morph}
 use Rattle.bucket_store.specs.Items.{Item, Items, from_place}
 use Rattle.brigade_ops.specs.House.{cleared_item, cleared_items}
@@ -21,7 +19,6 @@ use Rattle.bucket_store.specs.Morphs.{kind_given, given_by, morphed, all_morphed
 use Rattle.brigade_ops.specs.declared.store.Brigades.{Brigades}
 use Rattle.bucket_store.specs.BucketStore.{seen}
 use Rattle.brigade_ops.specs.Store.{brigade_of, bucket_at}
-use Rattle.bucket_store.proofs.Names.{in_more_other}
 use Rattle.bucket_store.proofs.Cleared.{given_once, given_twice, morphed_append, at_some}
 
 -- One bucket more was looked at.
@@ -64,27 +61,16 @@ module _ (reached : ℕ → Bool) (ready : List Morph) (name : BucketId) (r : Op
 pub none_left : {T : Type 0} (id : BucketId) (place : Option BucketId) (xs : List (BucketId × T)) → place ≡ None → times id (from_place place xs) ≡ 0
 none_left id place xs e = ap (λ (p : Option BucketId). times id (from_place p xs)) e
 
--- The buckets of the brigades so far, and of one more.
-or_one : (b : Bool) → (b || (true || false)) ≡ true
-or_one true = refl
-or_one false = refl
-
-pub in_more_here : (b ring : ℕ) (rings : List ℕ) → (ring ≡ b) → is_in b (rings ++ ring ∷ []) ≡ true
-in_more_here b ring rings here = list_any-append (λ m. m == b) rings (ring ∷ []) ∙ (ap (λ s. is_in b rings || (s || false)) (eq-eqb ring b here) ∙ or_one (is_in b rings))
-
 pub as_it_was : (reached : ℕ → Bool) (ms : List Morph) (id : BucketId) (x : Bucket) (b : Bool) → morphed ms id x ≡ cond b (cleared_as reached x) x → IsAsItWas reached ms id x
 as_it_was reached ms id x true e = inr e
 as_it_was reached ms id x false e = inl e
 
 -- A list of buckets gets what was made ready for each.
 module _ (reached : ℕ → Bool) (ms : List Morph) where
-  list_made : (named : Bool) (xs : Items) → ((i : BucketId) → times i xs ≤ 1) → ((id : BucketId) (x : Bucket) → found id xs ≡ Some x → morphed ms id x ≡ cond named (cleared_as reached x) x)
-      → all_morphed ms xs ≡ cleared_items reached named xs
-  list_made named [] once each = by_test named where
-    by_test : (b : Bool) → [] ≡ cleared_items reached b []
-    by_test true = refl
-    by_test false = refl
-  list_made named (x ∷ xs) once each = joined named (each x.0 x.1 head) (list_made named xs fewer later) where
+  list_made : (xs : Items) → ((i : BucketId) → times i xs ≤ 1) → ((id : BucketId) (x : Bucket) → found id xs ≡ Some x → morphed ms id x ≡ cleared_as reached x)
+      → all_morphed ms xs ≡ cleared_items reached xs
+  list_made [] once each = refl
+  list_made (x ∷ xs) once each = joined (each x.0 x.1 head) (list_made xs fewer later) where
     head : found x.0 (x ∷ xs) ≡ Some x.1
     head = rw (same_self x.0) refl
 
@@ -95,27 +81,29 @@ module _ (reached : ℕ → Bool) (ms : List Morph) where
     fewer : (i : BucketId) → times i xs ≤ 1
     fewer i = few (same x.0 i) (times i xs) (once i)
 
-    later : (id : BucketId) (y : Bucket) → found id xs ≡ Some y → morphed ms id y ≡ cond named (cleared_as reached y) y
+    later : (id : BucketId) (y : Bucket) → found id xs ≡ Some y → morphed ms id y ≡ cleared_as reached y
     later id y is = elim (cases_Bool (same x.0 id)) [
       | inl hit ↦ absurd (let two : suc (times id xs) ≤ 1 = rw hit at (once id) in let one = found_times id xs (ap is_some is) in omega arith)
       | inr miss ↦ each id y (rw miss is)
     ]
 
-    joined : (b : Bool) → morphed ms x.0 x.1 ≡ cond b (cleared_as reached x.1) x.1 → all_morphed ms xs ≡ cleared_items reached b xs → all_morphed ms (x ∷ xs) ≡ cleared_items reached b (x ∷ xs)
-    joined true here rest = ap (λ (y : Bucket). (let z : Item = (x.0, y) in z) ∷ all_morphed ms xs) here ∙ ap (λ (ys : Items). cleared_item reached x ∷ ys) rest
-    joined false here rest = ap (λ (y : Bucket). (let z : Item = (x.0, y) in z) ∷ all_morphed ms xs) here ∙ ap (λ (ys : Items). x ∷ ys) rest
+    joined : morphed ms x.0 x.1 ≡ cleared_as reached x.1 → all_morphed ms xs ≡ cleared_items reached xs → all_morphed ms (x ∷ xs) ≡ cleared_items reached (x ∷ xs)
+    joined here rest = ap (λ (y : Bucket). (let z : Item = (x.0, y) in z) ∷ all_morphed ms xs) here ∙ ap (λ (ys : Items). cleared_item reached x ∷ ys) rest
 
-  pub ring_made : (named : Bool) (o : Option Items) → ((i : BucketId) → times i (option_map_or (λ xs. xs) o []) ≤ 1)
-      → ((id : BucketId) (x : Bucket) → found id (option_map_or (λ xs. xs) o []) ≡ Some x → morphed ms id x ≡ cond named (cleared_as reached x) x)
-      → option_map (all_morphed ms) o ≡ option_map (cleared_items reached named) o
-  ring_made named None once each = refl
-  ring_made named (Some xs) once each = ap (λ (ys : Items). Some ys) (list_made named xs once each)
+  pub ring_made : (o : Option Items) → ((i : BucketId) → times i (option_map_or (λ xs. xs) o []) ≤ 1)
+      → ((id : BucketId) (x : Bucket) → found id (option_map_or (λ xs. xs) o []) ≡ Some x → morphed ms id x ≡ cleared_as reached x)
+      → option_map (all_morphed ms) o ≡ option_map (cleared_items reached) o
+  ring_made None once each = refl
+  ring_made (Some xs) once each = ap (λ (ys : Items). Some ys) (list_made xs once each)
 
-pub ring_step : (b ring : ℕ) (rings : List ℕ) (new old done x : Bucket) → old ≡ cond (is_in b rings) done x → (ring ≡ b → new ≡ done) → (ring ≢ b → new ≡ old)
-    → new ≡ cond (is_in b (rings ++ ring ∷ [])) done x
-ring_step b ring rings new old done x e here other = elim (cases_eq ring b) [
-  | inl is ↦ here is ∙ sym (ap (λ (s : Bool). cond s done x) (in_more_here b ring rings is))
-  | inr ne ↦ other ne ∙ (e ∙ sym (ap (λ (s : Bool). cond s done x) (in_more_other b ring rings ne)))
+-- What was made ready for no brigade, for those so far, and for one more.
+pub none_below : (b : ℕ) → nat_lt b 0 ≡ false
+none_below b = sym (ltb_from_iff (λ e. absurd (false≢true e), λ lt. absurd (omega (arith, lt))))
+
+pub ring_step : (b ring : ℕ) (new old done x : Bucket) → old ≡ cond (nat_lt b ring) done x → (ring ≡ b → new ≡ done) → (ring ≢ b → new ≡ old) → new ≡ cond (nat_lt b (ring + 1)) done x
+ring_step b ring new old done x e here other = elim (cases_eq ring b) [
+  | inl is ↦ here is ∙ sym (ap (λ (s : Bool). cond s done x) (lt-ltb b (ring + 1) (omega (arith, is))))
+  | inr ne ↦ other ne ∙ (e ∙ ap (λ (s : Bool). cond s done x) (ltb_from_iff (let below = ltb-true b ring in (λ is. (let a = below is in omega (arith, a)), λ lt. lt-ltb b ring (omega (arith, lt, ne))))))
 ]
 
 some_of : (o : Option ℕ) → is_some o ≡ true → (b : ℕ) × (o ≡ Some b)

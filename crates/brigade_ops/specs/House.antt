@@ -38,14 +38,14 @@ AreOpen references d = (file : ℕ) → 0 < references file → is_there (d.numb
 abbrev pub cleared_item : (ℕ → Bool) → Item → Item
 cleared_item reached x = (x.0, cleared_as reached x.1)
 
--- of the buckets of a brigade that is among those that a clear looks at,
-abbrev pub cleared_items : (ℕ → Bool) → Bool → Items → Items
-cleared_items reached named xs = if named then map (cleared_item reached) xs else xs
+-- of the buckets of a brigade,
+abbrev pub cleared_items : (ℕ → Bool) → Items → Items
+cleared_items reached xs = map (cleared_item reached) xs
 
 -- of a brigade on this pool, which goes with it,
-abbrev pub cleared_ring : (ℕ → Bool) → Bool → Option ℕ → Option Items → Option Items
-cleared_ring reached named on None = None
-cleared_ring reached named on (Some xs) = if is_reached reached on then None else Some (cleared_items reached named xs)
+abbrev pub cleared_ring : (ℕ → Bool) → Option ℕ → Option Items → Option Items
+cleared_ring reached on None = None
+cleared_ring reached on (Some xs) = if is_reached reached on then None else Some (cleared_items reached xs)
 
 -- and of the pool that it is on.
 abbrev pub pool_left : (ℕ → Bool) → Option ℕ → Option ℕ

@@ -3,7 +3,7 @@
 ghost use Rattle.std.specs.Prelude.{◌≡◌, ◌≢◌, [], ◌∷◌, ◌≤◌, ◌<◌, ◌+◌, ◌&&◌, ◌||◌, not, ℕ, None, Some, true, false, is_some, if◌then◌else◌, IsTrue, IfOk, IfSome, OnOk, OnErr};
 ghost use Rattle.std.specs.List.{list_any};
 ghost use Rattle.std.specs.Option.{option_map};
-ghost use Rattle.brigade_ops.specs.Prelude.{to_heap, end_pools, is_referred, is_brigade, is_file_ref, is_live, is_under, is_in, run_order, IsPoolMap, Destroy, pools_after, map_of, Missing};
+ghost use Rattle.brigade_ops.specs.Prelude.{to_heap, end_pools, is_referred, is_brigade, is_file_ref, is_live, is_under, run_order, IsPoolMap, Destroy, pools_after, map_of, Missing};
 ghost use Rattle.brigade_ops.specs.Prelude.{is_there, NoneRevived, is_reached, kind_reached, home_reached, refs_in, is_let_go, SameButOpen, IsHouse, AreOpen, cleared_items, cleared_ring, pool_left};
 ghost use Rattle.brigade_ops.specs.Prelude.{morphed, all_morphed, cleared_as, IsAsItWas};
 
@@ -83,37 +83,33 @@ impl<R: Rings<Stored> + Drop> Brigades<R> {
         Ok(())
     }
 
-    /// Makes ready what a clear of a pool makes of the buckets of these brigades, in a walk along each.
-    fn plan_by_walk(&self, rings: &[BrigadeId], reached: &Reached) -> Result<Seq<Morph>, AllocError>
+    /// Makes ready what a clear of a pool makes of buckets, in a walk along all brigades.
+    fn plan_by_walk(&self, reached: &Reached) -> Result<Seq<Morph>, AllocError>
         ensures { IfOk result (λ found. (n : ℕ)
-            → option_map (all_morphed found) (lists self.now n) ≡ option_map (cleared_items (is_reached reached.now) (is_in n rings.now)) (lists self.now n)) }
+            → option_map (all_morphed found) (lists self.now n) ≡ option_map (cleared_items (is_reached reached.now)) (lists self.now n)) }
     {
         let mut found = Seq::new(self.alloc);
-        for ring in rings {
-            if self.held.has_ring(*ring) {
-                self.plan_ring(&mut found, *ring, reached)?;
+        for ring in 0..self.held.next_name() {
+            if self.held.has_ring(ring) {
+                self.plan_ring(&mut found, ring, reached)?;
             }
         }
         Ok(found)
     }
 
-    /// Makes ready what a clear of a pool makes of the buckets of these brigades: POOL bytes that lie under it go to the heap, and homes
-    /// under it end. A name of no brigade is passed over, and no other brigade is looked at. Nothing is changed.
-    pub fn plan_morphs(
-        &self,
-        rings: &[BrigadeId],
-        pool: PoolId,
-        tree: &PoolTree<Payload>,
-    ) -> Result<Morphs, AllocError>
+    /// Makes ready what a clear of a pool makes of the buckets that depend on it, in whatever brigade they are: POOL bytes that lie under it
+    /// go to the heap, and homes under it end. They are found under the pools that they depend on; only where these names were lost, all
+    /// brigades are walked along. Nothing is changed.
+    pub fn plan_morphs(&self, pool: PoolId, tree: &PoolTree<Payload>) -> Result<Morphs, AllocError>
         requires { IsTrue (is_live (map_of tree.now) pool) }
         ensures reached { IfOk result (λ morphs. (p : ℕ) → is_under (map_of tree.now) pool p ≡ true → is_reached morphs.reached p ≡ true) }
         ensures made { IfOk result (λ morphs. (n : ℕ)
             → option_map (all_morphed morphs.found) (lists self.now n)
-            ≡ option_map (cleared_items (is_under (map_of tree.now) pool) (is_in n rings.now)) (lists self.now n)) }
+            ≡ option_map (cleared_items (is_under (map_of tree.now) pool)) (lists self.now n)) }
     {
         let reached = Reached::new(tree, pool)?;
         if self.held.rings.dependents.is_lost() {
-            let found = self.plan_by_walk(rings, &reached)?;
+            let found = self.plan_by_walk(&reached)?;
             let copies = Vec::new(self.alloc);
             return Ok(Morphs {
                 found,
@@ -121,9 +117,9 @@ impl<R: Rings<Stored> + Drop> Brigades<R> {
                 reached,
             });
         }
-        let names = self.due_names(rings, &reached)?;
+        let names = self.due_names(&reached)?;
         let found = self.plan_morphs_of(names.as_slice(), &reached)?;
-        let copies = self.copies_of(names.as_slice())?;
+        let copies = self.copies_of(&reached, names.as_slice())?;
         Ok(Morphs {
             found,
             copies,
@@ -151,13 +147,12 @@ impl<R: Rings<Stored> + Drop> Brigades<R> {
     }
 
     /// Clears a pool (`apr_pool_clear`): all pools under it go, and its own payloads. With them go the brigades that are on them, and the
-    /// references, the last of which closes its file. In the brigades that are named, POOL bytes that lie under the pool go to the heap, and
-    /// homes under it end; no other brigade is looked at. Or destroys a pool other than the root (`apr_pool_destroy`): then it goes too.
-    /// Answers what was handed on, in the run order. Without memory nothing is changed.
+    /// references, the last of which closes its file. In all other brigades, whoever calls, POOL bytes that lie under the pool go to the heap,
+    /// and homes under it end; they are found as `plan_morphs` finds them. Or destroys a pool other than the root (`apr_pool_destroy`): then it
+    /// goes too. Answers what was handed on, in the run order. Without memory nothing is changed.
     pub fn clear<F: Files>(
         &mut self,
         kind: ClearKind,
-        rings: &[BrigadeId],
         tree: &mut PoolTree<Payload>,
         files: &mut F,
         pool: PoolId,
@@ -168,7 +163,7 @@ impl<R: Rings<Stored> + Drop> Brigades<R> {
         requires open { AreOpen (references self.old) (F.device files.old) }
         ensures ran { IfOk result (λ ran. ran.items ≡ run_order (map_of tree.old) pool) }
         ensures ok { OnOk result (map_of tree.new ≡ pools_after kind pool (map_of tree.old)) }
-        ensures out { OnOk result ((n : ℕ) → lists self.new n ≡ cleared_ring (is_under (map_of tree.old) pool) (is_in n rings.now) (pool_of self.old n) (lists self.old n)) }
+        ensures out { OnOk result ((n : ℕ) → lists self.new n ≡ cleared_ring (is_under (map_of tree.old) pool) (pool_of self.old n) (lists self.old n)) }
         ensures off { OnOk result ((n : ℕ) → pool_of self.new n ≡ pool_left (is_under (map_of tree.old) pool) (pool_of self.old n)) }
         ensures closed { OnOk result ((f : ℕ) → (F.device files.new).numbered f
             ≡ (if list_any (λ x. is_file_ref f x.1) (run_order (map_of tree.old) pool) && not (is_referred (map_of tree.new) f) then Missing else (F.device files.old).numbered f)) }
@@ -187,7 +182,7 @@ impl<R: Rings<Stored> + Drop> Brigades<R> {
         ensures unasked { self.new.asked ≡ self.old.asked }
         ensures tree_unasked { tree.new.asked ≡ tree.old.asked }
     {
-        let morphs = self.plan_morphs(rings, pool, tree)?;
+        let morphs = self.plan_morphs(pool, tree)?;
         let ran = tree.empty(kind, pool)?;
         self.run_down(files, morphs, ran.as_slice());
         Ok(ran)

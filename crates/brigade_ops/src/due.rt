@@ -5,7 +5,7 @@ ghost use Rattle.brigade_ops.specs.Prelude.{BucketId, names_of, is_reached, is_d
 
 use crate::clearing::depends_on;
 use crate::reached::Reached;
-use crate::store::{BrigadeId, Brigades};
+use crate::store::Brigades;
 use bucket_kinds::Stored;
 use bucket_ring::{BucketId, Rings};
 use run_model::Seq;
@@ -15,17 +15,15 @@ use std::alloc::AllocError;
 impl<R: Rings<Stored> + Drop> Brigades<R> {
     ghost use Rattle.brigade_ops.specs.Store.{lists, brigade_of, bucket_at, pool_of, next_name, references};
 
-    /// Whether a bucket is in one of these brigades, and a clear of a pool changes it.
-    fn is_due(&self, rings: &[BrigadeId], reached: &Reached, id: BucketId) -> bool
-        ensures { result ≡ is_due (is_reached reached.now) rings.now (brigade_of self.now id) (bucket_at self.now id) }
+    /// Whether there is a bucket of this name that a clear of a pool changes.
+    fn is_due(&self, reached: &Reached, id: BucketId) -> bool
+        ensures { result ≡ is_due (is_reached reached.now) (brigade_of self.now id) (bucket_at self.now id) }
     {
-        match self.held.ring_of(id) {
-            Some(ring) if rings.contains(&ring) => {
-                let bucket = self.payload(id);
-                depends_on(reached, bucket.kind, bucket.home)
-            }
-            _ => false,
+        if self.held.ring_of(id).is_none() {
+            return false;
         }
+        let bucket = self.payload(id);
+        depends_on(reached, bucket.kind, bucket.home)
     }
 
     /// Adds those of these names whose buckets a clear of a pool changes.
@@ -33,36 +31,31 @@ impl<R: Rings<Stored> + Drop> Brigades<R> {
         &self,
         found: &mut Seq<BucketId>,
         names: &[BucketId],
-        rings: &[BrigadeId],
         reached: &Reached,
     ) -> Result<(), AllocError>
-        ensures { OnOk result (found.new ≡ found.old ++ filter (λ id. is_due (is_reached reached.now) rings.now (brigade_of self.now id) (bucket_at self.now id)) names.now) }
+        ensures { OnOk result (found.new ≡ found.old ++ filter (λ id. is_due (is_reached reached.now) (brigade_of self.now id) (bucket_at self.now id)) names.now) }
     {
         for name in names {
-            if self.is_due(rings, reached, *name) {
+            if self.is_due(reached, *name) {
                 found.push(*name)?;
             }
         }
         Ok(())
     }
 
-    /// The names of the buckets in these brigades that a clear of a pool changes, by what is noted under the pools that it reaches. A name
-    /// may come more than once.
-    pub(crate) fn due_names(
-        &self,
-        rings: &[BrigadeId],
-        reached: &Reached,
-    ) -> Result<Seq<BucketId>, AllocError>
+    /// The names of the buckets that a clear of a pool changes, by what is noted under the pools that it reaches. A name may come more than
+    /// once.
+    pub(crate) fn due_names(&self, reached: &Reached) -> Result<Seq<BucketId>, AllocError>
         requires { self.now.held.rings.dependents.lost ≡ false }
-        ensures told { IfOk result (λ names. (id : BucketId) → is_named id names ≡ true → is_due (is_reached reached.now) rings.now (brigade_of self.now id) (bucket_at self.now id) ≡ true) }
-        ensures all { IfOk result (λ names. (id : BucketId) → is_due (is_reached reached.now) rings.now (brigade_of self.now id) (bucket_at self.now id) ≡ true → is_named id names ≡ true) }
+        ensures told { IfOk result (λ names. (id : BucketId) → is_named id names ≡ true → is_due (is_reached reached.now) (brigade_of self.now id) (bucket_at self.now id) ≡ true) }
+        ensures all { IfOk result (λ names. (id : BucketId) → is_due (is_reached reached.now) (brigade_of self.now id) (bucket_at self.now id) ≡ true → is_named id names ≡ true) }
     {
         let mut names = Seq::new(self.alloc);
         let noted = self.held.rings.dependents.names(reached.pool);
-        self.push_due(&mut names, noted, rings, reached)?;
+        self.push_due(&mut names, noted, reached)?;
         for name in &reached.under {
             let noted = self.held.rings.dependents.names(*name);
-            self.push_due(&mut names, noted, rings, reached)?;
+            self.push_due(&mut names, noted, reached)?;
         }
         Ok(names)
     }

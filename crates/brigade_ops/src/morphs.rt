@@ -7,7 +7,7 @@ ghost use Rattle.brigade_ops.specs.Prelude.{to_heap, end_pools, is_in, on, with_
 use crate::aside::hollow;
 use crate::reached::Reached;
 use crate::saving::push_some;
-use crate::store::Brigades;
+use crate::store::{BrigadeId, Brigades};
 use bucket_kinds::{Kept, Stored};
 use bucket_ring::{BucketId, Rings};
 use bucket_store::{HeapCopy, Morph};
@@ -58,9 +58,20 @@ impl<R: Rings<Stored> + Drop> Brigades<R> {
         })
     }
 
-    /// A copy of the bytes of a bucket, where they lie in a region.
-    fn copy_of(&self, id: BucketId) -> Result<Option<HeapCopy>, AllocError> {
-        if self.held.ring_of(id).is_none() {
+    /// Whether a brigade is on a pool that a clear reaches, and so goes with it.
+    fn goes_along(&self, reached: &Reached, ring: BrigadeId) -> bool {
+        match self.pools.get(ring) {
+            Some(pool) => reached.has(pool),
+            None => false,
+        }
+    }
+
+    /// A copy of the bytes of a bucket, where they lie in a region. One whose brigade goes with the clear needs none.
+    fn copy_of(&self, reached: &Reached, id: BucketId) -> Result<Option<HeapCopy>, AllocError> {
+        let Some(ring) = self.held.ring_of(id) else {
+            return Ok(None);
+        };
+        if self.goes_along(reached, ring) {
             return Ok(None);
         }
         match &self.stored(id).kept {
@@ -72,11 +83,15 @@ impl<R: Rings<Stored> + Drop> Brigades<R> {
         }
     }
 
-    /// Copies of the bytes of these buckets that lie in regions.
-    pub(crate) fn copies_of(&self, names: &[BucketId]) -> Result<Vec<HeapCopy>, AllocError> {
+    /// Copies of the bytes of these buckets that lie in regions, but for brigades that go with the clear.
+    pub(crate) fn copies_of(
+        &self,
+        reached: &Reached,
+        names: &[BucketId],
+    ) -> Result<Vec<HeapCopy>, AllocError> {
         let mut copies = Vec::new(self.alloc);
         for name in names {
-            if let Some(copy) = self.copy_of(*name)? {
+            if let Some(copy) = self.copy_of(reached, *name)? {
                 copies.push(copy)?;
             }
         }

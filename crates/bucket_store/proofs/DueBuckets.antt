@@ -79,27 +79,24 @@ module _ (reached : ℕ → Bool) where
       let parts = neither (kind_reached reached x.kind) (home_reached reached x.home) e in
       rw (same_kind x.kind parts.0, same_home x.home parts.1) refl
 
-  -- what is made ready for the names that are due is made ready for the brigades that are told
-  pub due_made : (x : Bucket) (told named : Bool) → (named ≡ true → (told && depends reached x) ≡ true) → ((told && depends reached x) ≡ true → named ≡ true)
-      → cond named (cleared_as reached x) x ≡ cond told (cleared_as reached x) x
-  due_made x true true due all = refl
-  due_made x false false due all = refl
-  due_made x false true due all = absurd (false≢true (due refl))
-  due_made x true false due all = elim (cases_Bool (depends reached x)) [
+  -- what is made ready for the names that are due is what a clear does
+  pub due_made : (x : Bucket) (named : Bool) → (depends reached x ≡ true → named ≡ true) → cond named (cleared_as reached x) x ≡ cleared_as reached x
+  due_made x true all = refl
+  due_made x false all = elim (cases_Bool (depends reached x)) [
     | inl is ↦ absurd (false≢true (all is))
     | inr apart ↦ sym (stays x apart)
   ]
 
--- A due bucket is in a brigade that is told, and depends on a pool that is reached.
-pub due_parts : (reached : ℕ → Bool) (rings : List ℕ) (at : Option ℕ) (bucket : Option Bucket) → is_due reached rings at bucket ≡ true
+-- A due bucket is in a brigade, and depends on a pool that is reached.
+pub due_parts : (reached : ℕ → Bool) (at : Option ℕ) (bucket : Option Bucket) → is_due reached at bucket ≡ true
     → (b : ℕ) × (x : Bucket) × (at ≡ Some b) × (bucket ≡ Some x) × (depends reached x ≡ true)
-due_parts reached rings None bucket is = absurd (false≢true is)
-due_parts reached rings (Some b) None is = absurd (false≢true is)
-due_parts reached rings (Some b) (Some x) is = (b, x, refl, refl, (and_parts (is_in b rings) (depends reached x) is).1)
+due_parts reached None bucket is = absurd (false≢true is)
+due_parts reached (Some b) None is = absurd (false≢true is)
+due_parts reached (Some b) (Some x) is = (b, x, refl, refl, is)
 
-pub due_is : (reached : ℕ → Bool) (rings : List ℕ) (at : Option ℕ) (bucket : Option Bucket) (b : ℕ) (x : Bucket) → at ≡ Some b → bucket ≡ Some x
-    → is_due reached rings at bucket ≡ (is_in b rings && depends reached x)
-due_is reached rings at bucket b x in_b is = rw (in_b, is) refl
+pub due_is : (reached : ℕ → Bool) (at : Option ℕ) (bucket : Option Bucket) (b : ℕ) (x : Bucket) → at ≡ Some b → bucket ≡ Some x
+    → is_due reached at bucket ≡ depends reached x
+due_is reached at bucket b x in_b is = rw (in_b, is) refl
 
 -- a name among those that pass a test
 pub named_filtered : (test : BucketId → Bool) (id : BucketId) (names : List BucketId) → is_named id (filter test names) ≡ (test id && is_named id names)

@@ -1,11 +1,10 @@
--- The buckets that a clear of pools changes, where it looks at some of the brigades.
-use Rattle.std.specs.Prelude.{ℕ, Bool, false, ◌&&◌, ◌||◌, List, Option, None, Some}
+-- The buckets that a clear of pools changes.
+use Rattle.std.specs.Prelude.{ℕ, Bool, false, ◌||◌, Option, None, Some}
 use Rattle.run_model.specs.declared.bucket.Bucket.{Bucket}
 use Rattle.run_model.specs.declared.bucket.Kind.{Kind}
 use Rattle.run_model.specs.declared.bucket.Kind.TheVariants as kind
 use Rattle.run_model.specs.declared.bucket.Home.{Home}
 use Rattle.run_model.specs.declared.bucket.Home.TheVariants as home
-use Rattle.run_model.specs.Pools.{is_in}
 
 -- the pool that bytes lie in, if they lie in one,
 abbrev pub kind_pool : Kind → Option ℕ
@@ -38,8 +37,8 @@ home_reached reached h = place_reached reached (home_pool h)
 abbrev pub depends : (ℕ → Bool) → Bucket → Bool
 depends reached x = kind_reached reached x.kind || home_reached reached x.home
 
--- whether the bucket, which is in this brigade, is changed where the clear looks at those that are named
-abbrev pub is_due : (ℕ → Bool) → List ℕ → Option ℕ → Option Bucket → Bool
-is_due reached rings None bucket = false
-is_due reached rings (Some b) None = false
-is_due reached rings (Some b) (Some x) = is_in b rings && depends reached x
+-- whether a bucket is changed: one that is in a brigade, and depends on a pool that is reached
+abbrev pub is_due : (ℕ → Bool) → Option ℕ → Option Bucket → Bool
+is_due reached None bucket = false
+is_due reached (Some b) None = false
+is_due reached (Some b) (Some x) = depends reached x

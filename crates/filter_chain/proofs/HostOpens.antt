@@ -14,6 +14,7 @@ use Rattle.run_model.specs.Worlds.{World, Refused, Connected, put_conn, opens_if
 use Rattle.bucket_kinds.specs.Device.{Device}
 use Rattle.pool_tree.specs.Tree.{map_of}
 use Rattle.bucket_ring.specs.Kept.{once_in}
+use Rattle.bucket_ring.specs.Lists.{list_at}
 use Rattle.brigade_ops.specs.House.{AreOpen, IsHouse}
 use Rattle.bucket_store.specs.Items.{Items}
 use Rattle.brigade_ops.specs.Store.{lists, brigade_of, next_name, pool_of, references}
@@ -33,6 +34,7 @@ use Rattle.filter_chain.specs.Hosting.{Ghosts, Host, Stored, HoldsWorld, IsHosti
 use Rattle.filter_chain.specs.declared.conns.Conns.{Conns}
 use Rattle.filter_chain.specs.Hosted.{conn_at, IsHosted}
 use Rattle.filter_chain.specs.HostViews.{TellsEvent}
+use Rattle.filter_chain.proofs.BucketsApart.{none_depends}
 use Rattle.filter_chain.proofs.Hosts.{found, held_given, hosted_if}
 use Rattle.filter_chain.proofs.HostsLeft.{apart_then, conns_put, others_still, over_shown}
 use Rattle.filter_chain.proofs.HostEvents.{nothing_told, happened_on, refused_on}
@@ -193,7 +195,7 @@ opened_on d old new w hosts chain budget last conn conns modules same lasts open
       away : (k : ℕ) (x : Conn) → k ≢ w.last + 1 → conn_at old.conns k ≡ Some x → (n : ℕ) → 0 < n → HoldsName x n → IsForeign no_pools old.store conn n
       away k x other there n pos held =
           let given = held_given hosts x (found hosts k x there).2.stacked n held in
-          record { real = pos; given = given; unheld = λ too. (let fresh = beside.holds n pos too in omega (arith, given, fresh)); off = λ p on. refl }
+          record { real = pos; given = given; unheld = λ too. (let fresh = beside.holds n pos too in omega (arith, given, fresh)); off = λ p on. refl; apart = none_depends (is_under no_pools conn.conn) (λ p. refl) (list_at (lists old.store) n) }
 
       beside_all : LeavesOthers no_pools old.store new.store conn conn
       beside_all = record { rises = beside.rises; names = beside.names; others = λ n foreign. beside.others n foreign.given; holds = λ n pos held. inr (beside.holds n pos held) }

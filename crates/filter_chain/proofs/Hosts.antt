@@ -1,5 +1,5 @@
 -- What a host stands for: each connection over the tree of all, and what is another's.
-use Rattle.std.proofs.Common.{◌≡◌, ◌≢◌, ◌<◌, ℕ, Bool, true, List, Option, Some, None, is_some, refl, sym, ◌∙◌, ap, subst, arith, inl, inr, eq-eqb}
+use Rattle.std.proofs.Common.{◌≡◌, ◌≢◌, ◌<◌, ℕ, Bool, true, false, List, All, Option, Some, None, is_some, refl, sym, ◌∙◌, ap, subst, arith, inl, inr, eq-eqb}
 use Rattle.std.specs.Prelude.{if◌then◌else◌, count_by}
 use Rattle.std.specs.List.{list_any}
 use Rattle.std.proofs.lemmas.Bool.{false_from_ne_true}
@@ -7,16 +7,23 @@ use Rattle.module_code.specs.Program.{Program}
 use Rattle.bucket_kinds.specs.Device.{Device}
 use Rattle.bucket_ring.specs.declared.rings.Rings.{Ghosts}
 use Rattle.bucket_ring.specs.Kept.{once_in}
+use Rattle.bucket_ring.specs.Lists.{list_at}
+use Rattle.bucket_store.specs.Due.{depends}
 use Rattle.run_model.specs.declared.bucket.BrigadeVar.{BrigadeVar}
 use Rattle.run_model.specs.declared.bucket.BrigadeVar.TheVariants as var
+use Rattle.run_model.specs.declared.bucket.NamedBucket.{NamedBucket}
 use Rattle.run_model.specs.declared.payload.Payload.{Payload}
 use Rattle.run_model.specs.Chains.{Connection, configuration, pools_of}
 use Rattle.run_model.specs.Effects.{handed_over}
 use Rattle.run_model.specs.Holding.{refers, times_held}
 use Rattle.run_model.specs.Payloads.{is_brigade, is_file_ref}
-use Rattle.run_model.specs.Pools.{Cleanups, Pools, all_held, is_under}
+use Rattle.run_model.specs.Pools.{Cleanups, Pools, all_held, is_live, is_under}
 use Rattle.run_model.specs.Sound.{brigade_name}
 use Rattle.run_model.specs.Worlds.{World}
+use Rattle.model_laws.specs.ChainFiles.{OfEachBucket}
+use Rattle.model_laws.specs.ChainHomes.{ChainHomes, IsCalled}
+use Rattle.model_laws.specs.ChainPlaces.{ChainPlaces, MatchPool}
+use Rattle.model_laws.specs.Laws.{MatchHome}
 use Rattle.model_laws.specs.Parts.{HasPart}
 use Rattle.model_laws.specs.Reached.{WorldLaws}
 use Rattle.model_laws.specs.Registered.{IsMadeInOne}
@@ -31,8 +38,8 @@ use Rattle.pool_tree.specs.declared.tree.PoolTree.{PoolTree}
 use Rattle.pool_tree.specs.Tree.{map_of}
 use Rattle.bucket_kinds.specs.declared.stored.Stored.{Stored}
 use Rattle.brigade_ops.specs.declared.store.Brigades.{Brigades}
-use Rattle.bucket_store.specs.Items.{Items}
-use Rattle.brigade_ops.specs.Store.{lists, next_name, pool_of}
+use Rattle.bucket_store.specs.Items.{Item, Items}
+use Rattle.brigade_ops.specs.Store.{brigade_of, lists, next_name, pool_of}
 use Rattle.interp_state.specs.declared.machine.Slot.{Slot}
 use Rattle.interp_state.specs.declared.machine.Slot.TheVariants as slot
 use Rattle.interp_state.specs.Seen.{shown_as, shown_slot}
@@ -43,8 +50,10 @@ use Rattle.module_run.specs.Conns.{conn_of, filter_at, lent_by, runs_of, shown_f
 use Rattle.module_run.specs.Neighbours.{HoldsName, IsForeign}
 use Rattle.module_run.specs.Proceeding.{IsLawful, StandsFor}
 use Rattle.module_run.specs.Stacked.{IsStacked, named_at}
+use Rattle.module_run.proofs.ShownBuckets.{of_held}
 use Rattle.filter_chain.specs.Hosted.{IsHosted}
 use Rattle.filter_chain.specs.Hosting.{HoldsWorld, IsHostedIf}
+use Rattle.filter_chain.proofs.BucketsApart.{buckets_apart, live_apart}
 
 -- What a connection holds, by the brigades that the model's has.
 
@@ -163,6 +172,29 @@ module _ {R : Type 0} {g : Ghosts R Stored} {budget : ℕ} {chain : List Program
     | inr b ↦ (stacked.held held.at held.filter held.is).named b.0 n b.1
   ]
 
+  -- No bucket of what another connection holds depends on a pool of this one: its pool is live, or its home, in the part of the other.
+  apart_buckets : (number : ℕ) (c : Connection) → w.conns number ≡ Some c → (k : ℕ) (x : Conn) (e : Connection) → k ≢ number → w.conns k ≡ Some e → IsHosted chain tree store d x e
+      → (n : ℕ) → 0 < n → HoldsName x n → All (λ (y : Item). depends (is_under (map_of tree) c.conn) y.1 ≡ false) (list_at (lists store) n)
+  apart_buckets number c here k x e other there hosted n pos held =
+      buckets_apart (is_under (map_of tree) c.conn) (IsCalled e.stack) Alive
+      (live_apart (map_of tree) w.common c.conn e stands.lies.part (stands.tops number c here) (stands.tops k e there) (λ same. stands.differ number c here (λ is. other (sym is)) (sym same)))
+      (runs_of x) (list_at (lists store) n)
+      (of_held (λ (y : NamedBucket). MatchPool y.bucket.kind Alive) chain (brigade_of store) (lists store) (pool_of store) (next_name store) x hosted.stacked (map_of tree) e.opened
+      (subst (OfEachBucket (λ (y : NamedBucket). MatchPool y.bucket.kind Alive)) hosted.seen (record { brigades = places.brigades; loose = places.loose })) n pos held)
+      (of_held (λ (y : NamedBucket). MatchHome y.bucket.home (IsCalled e.stack) Alive) chain (brigade_of store) (lists store) (pool_of store) (next_name store) x hosted.stacked (map_of tree) e.opened
+      (subst (OfEachBucket (λ (y : NamedBucket). MatchHome y.bucket.home (IsCalled e.stack) Alive)) hosted.seen (record { brigades = homes.brigades; loose = homes.loose })) n pos held) where
+        Alive : ℕ → Type 0
+        Alive p = is_live (pools_of w.common e) p ≡ true
+
+        stands : TreeStands chain w (map_of tree) k e
+        stands = known k e there
+
+        places : ChainPlaces w.common e
+        places = laws.places k e there
+
+        homes : ChainHomes w.common e
+        homes = laws.homes k e there
+
   -- What another connection holds is foreign to this one.
   pub foreign : (number : ℕ) (conn : Conn) → conns number ≡ Some conn → (k : ℕ) (x : Conn) → k ≢ number → conns k ≡ Some x → (n : ℕ) → 0 < n → HoldsName x n → IsForeign (map_of tree) store conn n
   unfolding conn_of
@@ -174,6 +206,8 @@ module _ {R : Type 0} {g : Ghosts R Stored} {budget : ℕ} {chain : List Program
         given = held_given x e.2.stacked n held;
         unheld = λ too. h.apart k number n x conn there at other pos held too;
         off = λ p on. false_from_ne_true (is_under (map_of tree) conn.conn p) (λ under. h.apart k number n x conn there at other pos held (mine f.0 f.1 f.2 p on under));
+        apart = subst (λ (m : ℕ). All (λ (y : Item). depends (is_under (map_of tree) m) y.1 ≡ false) (list_at (lists store) n)) (same_pool f.0 f.2)
+            (apart_buckets number f.0 f.1 k x e.0 other e.1 e.2 n pos held);
       } where
         same_pool : (c : Connection) → IsHosted chain tree store d conn c → c.conn ≡ conn.conn
         same_pool c hosted = ap (λ (y : Connection). y.conn) hosted.seen

@@ -3,6 +3,7 @@ pub mod ConnGoing
 pub mod FilesSpared
 pub mod MayFail
 pub mod FileNumbers
+pub mod BucketsApart
 pub mod Hosts
 pub mod HostsLeft
 pub mod Lent

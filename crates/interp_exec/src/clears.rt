@@ -2,7 +2,7 @@
 
 ghost use Rattle.std.specs.Prelude.{◌≡◌, ◌≢◌, ◌∷◌, [], ℕ, Some, IsTrue, OnOk, OnErr};
 ghost use Rattle.interp_exec.specs.Prelude.{Program, NoneRevived, is_live, is_under, map_of, IsHouse, AreOpen, brigade_of, pool_of, references, next_name, ContextView, IsHeld, LeavesRest};
-ghost use Rattle.interp_exec.specs.Prelude.{LeavesUncleared, seen, WasDone, during, with_files, LooksAt, pool_to_clear};
+ghost use Rattle.interp_exec.specs.Prelude.{LeavesUncleared, seen, WasDone, during, with_files, SparesIncoming, pool_to_clear};
 ghost use Rattle.run_model.specs.declared.effect.Effect.TheVariants as effect;
 
 use crate::labels::add_labels;
@@ -14,8 +14,8 @@ use interp_state::pool_names::{name_in, variable};
 use run_model::Payload;
 use std::alloc::AllocError;
 
-/// Clears or destroys the pool of a variable, looking at the brigades of the connection, in all its filters, and the loose buckets of all its calls. The
-/// labels that it runs are added to those of earlier clears, in the run order. Without memory nothing is changed.
+/// Clears or destroys the pool of a variable. What depends on it is found, in whatever brigade it is. The labels that it runs are added to
+/// those of earlier clears, in the run order. Without memory nothing is changed.
 pub(crate) fn clear_pool<R: Rings<Stored> + Drop, F: Files>(
     instance: &Instance,
     call: &Call,
@@ -32,8 +32,8 @@ pub(crate) fn clear_pool<R: Rings<Stored> + Drop, F: Files>(
     requires open { AreOpen (references store.old) (F.device files.old) }
     requires live { (pool : ℕ) × (pool_to_clear instance.now (effect.EmptyPool kind q) ≡ Some pool) × IsTrue (is_live (map_of tree.old) pool) }
     requires below { (pool : ℕ) → pool_to_clear instance.now (effect.EmptyPool kind q) ≡ Some pool → (map_of tree.old).path pool ≢ pool ∷ [] }
-    requires looks { (pool : ℕ) → pool_to_clear instance.now (effect.EmptyPool kind q) ≡ Some pool
-        → LooksAt context.now.rings.now (is_under (map_of tree.old) pool) (pool_of store.old) instance.now call.now }
+    requires spares { (pool : ℕ) → pool_to_clear instance.now (effect.EmptyPool kind q) ≡ Some pool
+        → SparesIncoming (is_under (map_of tree.old) pool) (pool_of store.old) instance.now }
     ensures ok { OnOk result ((code : Program) (view : ContextView)
         → WasDone (F.device files.old) (F.device files.new) code (effect.EmptyPool kind q) (seen store.old (during context.now
         (map_of tree.old) handed.old.items view) instance.now call.now) (λ fs. seen store.new (with_files fs (during context.now
@@ -50,7 +50,7 @@ pub(crate) fn clear_pool<R: Rings<Stored> + Drop, F: Files>(
     ensures next { next_name store.new ≡ next_name store.old }
     ensures names { NoneRevived (brigade_of store.old) (brigade_of store.new) (next_name store.old) }
     ensures cleared { OnOk result ((pool : ℕ) → pool_to_clear instance.now (effect.EmptyPool kind q) ≡ Some pool
-        → LeavesUncleared (is_under (map_of tree.old) pool) context.now.rings.now store.old store.new) }
+        → LeavesUncleared (is_under (map_of tree.old) pool) store.old store.new) }
     ensures unasked { store.new.asked ≡ store.old.asked }
     ensures tree_unasked { tree.new.asked ≡ tree.old.asked }
 {
@@ -58,7 +58,7 @@ pub(crate) fn clear_pool<R: Rings<Stored> + Drop, F: Files>(
         unreachable!()
     };
     handed.reserve(1)?;
-    let ran = store.clear(kind, context.rings, tree, files, pool)?;
+    let ran = store.clear(kind, tree, files, pool)?;
     add_labels(handed, ran);
     Ok(())
 }

@@ -2,7 +2,7 @@
 
 ghost use Rattle.std.specs.Prelude.{◌≡◌, ◌≢◌, ◌∷◌, ◌≤◌, ◌<◌, ℕ, [], None, Some, true, false, length, IsOk, IfOk, OnOk, OnErr};
 ghost use Rattle.interp_exec.specs.Prelude.{fits, NoneRevived, fault, is_under, grows, map_of, IsHouse, AreOpen, brigade_of, pool_of, references, next_name, clears_pool, is_carried, ContextView};
-ghost use Rattle.interp_exec.specs.Prelude.{KeepNames, WasCarriedOut, during, with_files, LooksAt, EndInFiles, FitKinds, RangesOpen, IsHeld, LeavesRest, LeavesUncleared, cleared_in, seen, in_context};
+ghost use Rattle.interp_exec.specs.Prelude.{KeepNames, WasCarriedOut, during, with_files, SparesIncoming, EndInFiles, FitKinds, RangesOpen, IsHeld, LeavesRest, LeavesUncleared, cleared_in, seen, in_context};
 
 use crate::clears::clear_pool;
 use crate::execute_without_files::execute_without_files;
@@ -42,7 +42,7 @@ pub fn execute_instr<R: Rings<Stored> + Drop, F: Files>(
     requires ranges { (view : ContextView) → RangesOpen (F.device files.old) (seen store.old (in_context context.now (map_of tree.old) view) instance.old call.old) }
     requires faultless { (view : ContextView) → fault code.now (seen store.old (in_context context.now (map_of tree.old) view) instance.old call.old) instr ≡ None }
     requires below { (pool : ℕ) → cleared_in instance.old instr ≡ Some pool → (map_of tree.old).path pool ≢ pool ∷ [] }
-    requires looks { (pool : ℕ) → cleared_in instance.old instr ≡ Some pool → LooksAt context.now.rings.now (is_under (map_of tree.old) pool) (pool_of store.old) instance.old call.old }
+    requires spares { (pool : ℕ) → cleared_in instance.old instr ≡ Some pool → SparesIncoming (is_under (map_of tree.old) pool) (pool_of store.old) instance.old }
     ensures ok { IfOk result (λ exit. (view : ContextView)
         → WasCarriedOut (F.device files.old) (F.device files.new) code.now instr (seen store.old (during context.now
         (map_of tree.old) handed.old.items view) instance.old call.old) exit (λ fs. seen store.new (with_files fs (during context.now
@@ -62,7 +62,7 @@ pub fn execute_instr<R: Rings<Stored> + Drop, F: Files>(
     ensures rises { next_name store.old ≤ next_name store.new }
     ensures names { NoneRevived (brigade_of store.old) (brigade_of store.new) (next_name store.old) }
     ensures left { clears_pool instr ≡ false → LeavesRest store.old store.new instance.old call.old }
-    ensures cleared { OnOk result ((pool : ℕ) → cleared_in instance.old instr ≡ Some pool → LeavesUncleared (is_under (map_of tree.old) pool) context.now.rings.now store.old store.new) }
+    ensures cleared { OnOk result ((pool : ℕ) → cleared_in instance.old instr ≡ Some pool → LeavesUncleared (is_under (map_of tree.old) pool) store.old store.new) }
     ensures unasked { store.new.asked ≡ store.old.asked }
     ensures tree_unasked { tree.new.asked ≡ tree.old.asked }
 {

@@ -52,7 +52,6 @@ pub struct Call {
 }
 
 impl Instance {
-    ghost use Rattle.run_model.specs.Pools.{is_in};
     ghost use Rattle.interp_state.specs.Slots.{slot_at, live_in, marked, name_in, SameButSlots};
 
     /// An instance before its `open`.
@@ -116,20 +115,6 @@ impl Instance {
             Slot::Null => {}
             Slot::Made(name, pool, _) => self.set_slot(b, Slot::Made(name, pool, mark)),
         }
-    }
-
-    /// Adds the names of the brigades of its variables.
-    pub fn add_brigades(&self, names: &mut Vec<BrigadeId>) -> Result<(), AllocError>
-        ensures kept { (n : ℕ) → is_in n names.old.items ≡ true → is_in n names.new.items ≡ true }
-        ensures named { OnOk result ((b n : ℕ) → name_in (slot_at self.now b) ≡ Some n → is_in n names.new.items ≡ true) }
-        ensures only { OnOk result ((n : ℕ) → is_in n names.new.items ≡ true → (is_in n names.old.items ≡ true) ⊎ ((b : ℕ) × (name_in (slot_at self.now b) ≡ Some n))) }
-    {
-        for slot in &self.slots {
-            if let Slot::Made(name, _, _) = *slot {
-                names.push(name)?;
-            }
-        }
-        Ok(())
     }
 
     /// Remembers that an EOS was passed in this request.

@@ -1,14 +1,16 @@
 -- What an instruction on cursors and buckets leaves: what was true of each bucket is true of each, also of those that are
 -- made, cut and read.
-use Rattle.std.proofs.Common.{◌≡◌, ℕ, zero, suc, ◌+◌, ◌-◌, ◌≤◌, ◌⊎◌, Bool, true, false, cond, not, ◌||◌, nat_lt, nat_le, List, [], ◌∷◌, ◌++◌, Option, Some, None, is_some, All, inl, inr, refl, sym}
+use Rattle.std.proofs.Common.{◌≡◌, ℕ, zero, suc, ◌+◌, ◌-◌, ◌≤◌, ◌⊎◌, Bool, true, false, cond, not, ◌||◌, nat_lt, nat_le, List, [], ◌∷◌, ◌++◌, Option, Some, None, is_some, All, inl, inr, refl, sym, ap, ◌∙◌}
 use Rattle.std.proofs.Common.{IfSome, subst, arith}
 use Rattle.std.proofs.lemmas.Bool.Decides.{nat_tests}
 use Rattle.std.proofs.lemmas.List.Elements.{All-nil, All-cons, All-head, All-tail, All-append}
 use Rattle.module_code.specs.declared.instr.Instr.{Instr}
+use Rattle.module_code.specs.declared.instr.PoolRef.{PoolRef}
 use Rattle.module_code.specs.Program.{Program}
 use Rattle.run_model.specs.declared.bucket.Content.{Content}
 use Rattle.run_model.specs.declared.bucket.Content.TheVariants as content
 use Rattle.run_model.specs.declared.bucket.Home.TheVariants as home
+use Rattle.run_model.specs.declared.bucket.Kind.TheVariants as kind
 use Rattle.run_model.specs.declared.bucket.Bucket.{Bucket}
 use Rattle.run_model.specs.declared.bucket.NamedBucket.{NamedBucket}
 use Rattle.run_model.specs.declared.bucket.BrigadeVar.{BrigadeVar}
@@ -18,15 +20,15 @@ use Rattle.run_model.specs.Buckets.{is_data}
 use Rattle.run_model.specs.Cutting.{FitsKind, EndsInFile, length_of, front_of, rest_of, split_at, read_limit, read_as}
 use Rattle.run_model.specs.BrigadeLists.{buckets_before, buckets_from, first_bucket, taken_out, put_head, put_tail, put_before, stays, moves, TooLong, Metadata, split_refusal, first_bytes, rest_as}
 use Rattle.run_model.specs.BrigadeLists.{first_split, front_to, back_from, is_short, partitioned}
-use Rattle.run_model.specs.State.{Configuration, items_of, set_brigade, set_number, set_cursor, set_loose}
+use Rattle.run_model.specs.State.{Configuration, items_of, pool_named, set_brigade, set_number, set_cursor, set_loose}
 use Rattle.run_model.specs.Cursors.{bucket_at, CursorPlace, AtLoose, Within, at_cursor, read_cursor}
-use Rattle.run_model.specs.BucketSteps.{copied_bucket, items_at, set_items, do_next, do_unlink, do_delete, put_into, do_before, name_given, names_given, names_to_part, new_loose, heap_bucket}
+use Rattle.run_model.specs.BucketSteps.{copied_bucket, immortal_bucket, metadata, pool_bucket, pooled_bucket, transient_bucket, items_at, set_items, do_next, do_unlink, do_delete, put_into, do_before, name_given, names_given, names_to_part, new_loose, heap_bucket}
 use Rattle.run_model.specs.BucketSteps.{do_make, split_there, do_split, rest_named, first_read, read_given, read_within, do_read}
 use Rattle.run_model.specs.BucketSteps.{place_at, do_bsplit, do_bpart, got}
 use Rattle.run_model.specs.declared.effect.Effect.{Effect}
 use Rattle.run_model.specs.declared.effect.Effect.TheVariants as effect
 use Rattle.run_model.specs.declared.effect.MadeFrom.{MadeFrom}
-use Rattle.run_model.specs.declared.effect.MadeFrom.TheVariants.{CopyAt}
+use Rattle.run_model.specs.declared.effect.MadeFrom.TheVariants.{HeapText, ImmortalText, HeapBuffer, TransientBuffer, PoolBuffer, FlushBucket, EosBucket, CopyAt}
 use Rattle.run_model.specs.declared.effect.Side.{Side}
 use Rattle.run_model.specs.declared.effect.Side.TheVariants.{AtTail, AtHead}
 use Rattle.run_model.specs.EffectOf.{effect_of}
@@ -67,6 +69,10 @@ pub data IsNewContent (p : Program) (r : Configuration) : Content → Type 0 whe
   OfText : (t : ℕ) → IsNewContent p r (content.Bytes (text_of p t))
   OfBuffer : IsNewContent p r (content.Bytes r.call.buffer)
   OfNone : IsNewContent p r content.Nothing
+
+-- a POOL bucket lies in the pool that the effect names
+abbrev pub IsPooledBy : Configuration → Effect → Bucket → Type 0
+IsPooledBy r e b = (n : ℕ) → b.kind ≡ kind.Pool n → (c : ℕ) × (q : PoolRef) × (e ≡ effect.Make c (PoolBuffer q)) × (pool_named r q ≡ Some n)
 
 -- What is true of both parts of a bucket of which it is true.
 pub record PassesParts (T : Bucket → Type 0) : Type 0 where
@@ -301,6 +307,10 @@ module _ (S : ℕ → Type 0) (T : NamedBucket → Type 0) (r : Configuration) (
         (read_first bytes (made x.bucket.content bytes is) (buckets_from x.name (items_at r b)) (each_from T x.name (items_at r b) (h.brigades b s)))) (names_hold S T _ r h))
   read_holds given s made = h
 
+-- one POOL bucket lies in one pool
+same_pool : (n m : ℕ) → kind.Pool n ≡ kind.Pool m → n ≡ m
+same_pool n m is = cc
+
 -- whether an effect neither changes pools nor brigades as a whole, nor ends a call, nor sets buckets aside
 abbrev pub is_quiet : Effect → Bool
 is_quiet e = not (is_wide (extent e) || has_pools (extent e))
@@ -314,8 +324,8 @@ TakesIn S r e = Unit {0}
 
 -- What is true of each bucket, under its name, of what comes of it and of what is made and read, is true of each that such an effect leaves, in
 -- these brigades.
-module _ (S : ℕ → Type 0) (T : NamedBucket → Type 0) (p : Program) (choice : Choice) (r : Configuration) (on : Descends r.shared.next T)
-    (made : (b : Bucket) → IsMade r b → IsNewContent p r b.content → T (record { name = r.shared.next; bucket = b }))
+module _ (S : ℕ → Type 0) (T : NamedBucket → Type 0) (p : Program) (choice : Choice) (r : Configuration) (e : Effect) (on : Descends r.shared.next T)
+    (made : (b : Bucket) → IsMade r b → IsPooledBy r e b → IsNewContent p r b.content → T (record { name = r.shared.next; bucket = b }))
     (reads : (c : Content) (bytes : List ℕ) → read_given choice.given c ≡ Some bytes → (x : NamedBucket) → T x → T (record x { bucket = heap_bucket bytes })) (h : HoldsIn S T r) where
   abbrev New : Bucket → Type 0
   New b = T (record { name = r.shared.next; bucket = b })
@@ -326,32 +336,56 @@ module _ (S : ℕ → Type 0) (T : NamedBucket → Type 0) (p : Program) (choice
   copied_holds (Some x) old = on.named x old
 
   -- of whatever source: made as one is made in a call, or like one at which a cursor stands
-  made_holds : (c : ℕ) (source : MadeFrom) → TakesIn S r (effect.Make c source) → IfSome (made_of p r source) New
-  made_holds c (CopyAt d) in_it = copied_holds (bucket_at (at_cursor r d)) (held_in S T r h (at_cursor r d) in_it (stands r (r.call.cursors d)))
-  made_holds c source in_it = grind (arith, made, OfText, OfBuffer, OfNone)
+  made_holds : (c : ℕ) (source : MadeFrom) → e ≡ effect.Make c source → TakesIn S r (effect.Make c source) → IfSome (made_of p r source) New
+  made_holds c (CopyAt d) is in_it = copied_holds (bucket_at (at_cursor r d)) (held_in S T r h (at_cursor r d) in_it (stands r (r.call.cursors d)))
+  made_holds c (PoolBuffer q) is in_it = by_name (pool_named r q) refl where
+    by_name : (o : Option ℕ) → pool_named r q ≡ o → IfSome (pooled_bucket r.call.buffer o) New
+    by_name None at = tt
+    by_name (Some n) at =
+        made (pool_bucket r.call.buffer n) (record { fits = record { holds = refl; lives = tt }; ends = tt; lives = inl refl }) (λ m here. (c, q, is, at ∙ ap (λ (k : ℕ). Some k) (same_pool n m here))) OfBuffer
+  made_holds c (HeapText t) is in_it =
+      made (heap_bucket (text_of p t)) (record { fits = record { holds = refl; lives = tt }; ends = tt; lives = inl refl }) (λ m here. absurd (cc)) (OfText t)
+  made_holds c (ImmortalText t) is in_it =
+      made (immortal_bucket (text_of p t)) (record { fits = record { holds = refl; lives = tt }; ends = tt; lives = inl refl }) (λ m here. absurd (cc)) (OfText t)
+  made_holds c HeapBuffer is in_it =
+      made (heap_bucket r.call.buffer) (record { fits = record { holds = refl; lives = tt }; ends = tt; lives = inl refl }) (λ m here. absurd (cc)) OfBuffer
+  made_holds c TransientBuffer is in_it =
+      made (transient_bucket r.call.name r.call.buffer) (record { fits = record { holds = refl; lives = tt }; ends = tt; lives = inr refl }) (λ m here. absurd (cc)) OfBuffer
+  made_holds c FlushBucket is in_it = made (metadata kind.Flush) (record { fits = record { holds = refl; lives = tt }; ends = tt; lives = inl refl }) (λ m here. absurd (cc)) OfNone
+  made_holds c EosBucket is in_it = made (metadata kind.Eos) (record { fits = record { holds = refl; lives = tt }; ends = tt; lives = inl refl }) (λ m here. absurd (cc)) OfNone
 
   insert_holds : (side : Side) (b c : ℕ) → HoldsIn S T (put_into (put_at side) b (at_cursor r c) r)
   insert_holds AtTail b c = put_holds S T r on h put_tail (each_put_tail T) b (at_cursor r c) (stands r (r.call.cursors c))
   insert_holds AtHead b c = put_holds S T r on h put_head (each_put_head T) b (at_cursor r c) (stands r (r.call.cursors c))
 
-  pub leaves_in : (e : Effect) → is_quiet e ≡ true → TakesIn S r e → HoldsIn S T (do_effect p choice e r)
-  leaves_in effect.Nothing quiet in_it = h
-  leaves_in (effect.SplitBrigade b c a) quiet in_it = bsplit_holds S T r on h b (at_cursor r c) a in_it
-  leaves_in (effect.PartBrigade b x c) quiet in_it = part_holds S T r on h b (value_of r x) c
-  leaves_in (effect.First c b) quiet in_it = cursor_holds S T c _ r h
-  leaves_in (effect.Next d c) quiet in_it = next_holds S T r on h d (at_cursor r c)
-  leaves_in (effect.Unlink c) quiet in_it = unlink_holds S T r on h (at_cursor r c) in_it (stands r (r.call.cursors c))
-  leaves_in (effect.Delete c) quiet in_it = delete_holds S T r on h (at_cursor r c)
-  leaves_in (effect.Insert side b c) quiet in_it = insert_holds side b c
-  leaves_in (effect.Before c d) quiet in_it = before_holds S T r on h (at_cursor r c) (at_cursor r d) (stands r (r.call.cursors c))
-  leaves_in (effect.Make c source) quiet in_it = make_holds S T r on h c (made_of p r source) (made_holds c source in_it)
-  leaves_in (effect.Split c x) quiet in_it = split_holds S T r on h (value_of r x) (at_cursor r c) (stands r (r.call.cursors c))
-  leaves_in (effect.Read c) quiet in_it = read_holds S T r on h choice.given (at_cursor r c) reads
-  leaves_in (effect.Number n number) quiet in_it = got_holds S T r on h n (number_of r n number)
-  leaves_in (effect.Put x) quiet in_it = put_keeps (HoldsIn S T) x r h (λ buffer. buffer_holds S T buffer r h)
-  leaves_in effect.ClearBuffer quiet in_it = buffer_holds S T [] r h
-  leaves_in effect.Leave quiet in_it = record { brigades = h.brigades; loose = h.loose }
-  leaves_in e quiet in_it = absurd (cc)
+  effect_leaves : (f : Effect) → e ≡ f → is_quiet f ≡ true → TakesIn S r f → HoldsIn S T (do_effect p choice f r)
+  effect_leaves effect.Nothing is quiet in_it = h
+  effect_leaves (effect.SplitBrigade b c a) is quiet in_it = bsplit_holds S T r on h b (at_cursor r c) a in_it
+  effect_leaves (effect.PartBrigade b x c) is quiet in_it = part_holds S T r on h b (value_of r x) c
+  effect_leaves (effect.First c b) is quiet in_it = cursor_holds S T c _ r h
+  effect_leaves (effect.Next d c) is quiet in_it = next_holds S T r on h d (at_cursor r c)
+  effect_leaves (effect.Unlink c) is quiet in_it = unlink_holds S T r on h (at_cursor r c) in_it (stands r (r.call.cursors c))
+  effect_leaves (effect.Delete c) is quiet in_it = delete_holds S T r on h (at_cursor r c)
+  effect_leaves (effect.Insert side b c) is quiet in_it = insert_holds side b c
+  effect_leaves (effect.Before c d) is quiet in_it = before_holds S T r on h (at_cursor r c) (at_cursor r d) (stands r (r.call.cursors c))
+  effect_leaves (effect.Make c source) is quiet in_it = make_holds S T r on h c (made_of p r source) (made_holds c source is in_it)
+  effect_leaves (effect.Split c x) is quiet in_it = split_holds S T r on h (value_of r x) (at_cursor r c) (stands r (r.call.cursors c))
+  effect_leaves (effect.Read c) is quiet in_it = read_holds S T r on h choice.given (at_cursor r c) reads
+  effect_leaves (effect.Number n number) is quiet in_it = got_holds S T r on h n (number_of r n number)
+  effect_leaves (effect.Put x) is quiet in_it = put_keeps (HoldsIn S T) x r h (λ buffer. buffer_holds S T buffer r h)
+  effect_leaves effect.ClearBuffer is quiet in_it = buffer_holds S T [] r h
+  effect_leaves effect.Leave is quiet in_it = record { brigades = h.brigades; loose = h.loose }
+  effect_leaves f is quiet in_it = absurd (cc)
+
+  pub leaves_by : is_quiet e ≡ true → TakesIn S r e → HoldsIn S T (do_effect p choice e r)
+  leaves_by = effect_leaves e refl
+
+-- The same, whatever the pool of a POOL bucket that is made.
+pub leaves_in : (S : ℕ → Type 0) (T : NamedBucket → Type 0) (p : Program) (choice : Choice) (r : Configuration) → Descends r.shared.next T
+    → ((b : Bucket) → IsMade r b → IsNewContent p r b.content → T (record { name = r.shared.next; bucket = b }))
+    → ((c : Content) (bytes : List ℕ) → read_given choice.given c ≡ Some bytes → (x : NamedBucket) → T x → T (record x { bucket = heap_bucket bytes })) → HoldsIn S T r
+    → (e : Effect) → is_quiet e ≡ true → TakesIn S r e → HoldsIn S T (do_effect p choice e r)
+leaves_in S T p choice r on made reads h e = leaves_by S T p choice r e on (λ b new by put. made b new put) reads h
 
 -- The same of all brigades.
 
@@ -387,3 +421,12 @@ pub quiet_leaves : (T : Bucket → Type 0) (p : Program) (choice : Choice) (i : 
 quiet_leaves T p choice i r quiet on h =
     leaves (λ x. T x.bucket) p choice r (parts_descend T r.shared.next on.parts) (λ b new put. on.made b new)
     (λ c bytes is x old. on.made (heap_bucket bytes) (record { fits = record { holds = refl; lives = tt }; ends = tt; lives = inl refl })) h (effect_of i) quiet
+
+-- The same, where it is known which pool a POOL bucket that is made lies in.
+pub quiet_leaves_by : (T : Bucket → Type 0) (p : Program) (choice : Choice) (i : Instr) (r : Configuration) → is_quiet (effect_of i) ≡ true → PassesParts T
+    → ((b : Bucket) → IsMade r b → IsPooledBy r (effect_of i) b → T b) → Holds T r → Holds T (step p choice i r).state
+quiet_leaves_by T p choice i r quiet parts made h =
+    let left = leaves_by Any (λ x. T x.bucket) p choice r (effect_of i) (parts_descend T r.shared.next parts) (λ b new by put. made b new by)
+    (λ c bytes is x old. made (heap_bucket bytes) (record { fits = record { holds = refl; lives = tt }; ends = tt; lives = inl refl }) (λ n here. absurd (cc)))
+    (record { brigades = λ b any. h.brigades b; loose = h.loose }) quiet (any_taken r (effect_of i)) in
+    record { brigades = λ b. left.brigades b tt; loose = left.loose }

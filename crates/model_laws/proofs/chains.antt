@@ -33,6 +33,8 @@ pub mod Paths
 pub mod FilesKept
 pub mod StepHomes
 pub mod Homes
+pub mod StepPlaces
+pub mod PoolPlaces
 pub mod Numbers
 pub mod FilesApart
 pub mod Reached

@@ -28,6 +28,7 @@ pub mod JoinedParts
 pub mod PartsLast
 pub mod SharedPools
 pub mod ChainHomes
+pub mod ChainPlaces
 pub mod ChainRegistered
 pub mod ChainBodies
 pub mod ChainNumbers

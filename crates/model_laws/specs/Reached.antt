@@ -8,6 +8,7 @@ use Rattle.run_model.specs.Chains.{IsChain}
 use Rattle.model_laws.specs.ChainFiles.{TellsLengths, IsShortLength, WorldEnds, WorldFiles, WorldFilesApart}
 use Rattle.model_laws.specs.ChainPaths.{WorldPaths}
 use Rattle.model_laws.specs.ChainHomes.{WorldHomes}
+use Rattle.model_laws.specs.ChainPlaces.{WorldPlaces}
 use Rattle.model_laws.specs.ChainNumbers.{WorldNumbers}
 use Rattle.model_laws.specs.ChainRegistered.{WorldRegistered}
 
@@ -40,6 +41,7 @@ pub record WorldLaws (chain : List Program) (w : World) : Type 0 where
   pub apart : WorldFilesApart w
   pub paths : WorldPaths w
   pub homes : WorldHomes w
+  pub places : WorldPlaces w
   pub registered : WorldRegistered w
 
 abbrev pub ReachedHolds : Type 0

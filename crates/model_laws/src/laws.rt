@@ -30,6 +30,7 @@ ghost use Rattle.model_laws.specs.BrigadeLaws.{BrigadeSplitRows, BucketSplitRows
 ghost use Rattle.model_laws.specs.ChainLaws.{TopKeepsNames, TopKeepsBuckets, TopKeepsPools, TopKeepsCalls, TopRaisesNames, RisingKeepsSound, EventKeepsWorld, RunKeepsWorld, OthersStay, OpeningStays};
 ghost use Rattle.model_laws.specs.ChainFiles.{ConnectionStepKeepsEnds, BringKeepsEnds, EventKeepsBucketsEnd, EventKeepsWorldEnds, RunEndsWorld, WorldFiles, EventKeepsFilesApart, WorldFilesApart};
 ghost use Rattle.model_laws.specs.ChainHomes.{WorldHomes};
+ghost use Rattle.model_laws.specs.ChainPlaces.{WorldPlaces};
 ghost use Rattle.model_laws.specs.ChainOrder.{EventKeepsWorldOrder, RunKeepsWorldOrder};
 ghost use Rattle.model_laws.specs.ChainPaths.{WorldPaths};
 ghost use Rattle.model_laws.specs.SafeChains.{SafeModulesMakeSafeChains};
@@ -338,6 +339,12 @@ pub fn pools_of_chains_stay_in_their_connection()
 /// instance, and loose in every call. Each event keeps it.
 pub fn homes_of_chains_are_alive_or_ended()
     ensures { KeptInRuns WorldHomes }
+{}
+
+/// In each run of a chain the bytes of a POOL bucket lie in a live pool of its connection's part: in the brigades of every instance, and
+/// loose in every call. Each event keeps it.
+pub fn pool_buckets_of_chains_lie_in_live_pools()
+    ensures { KeptInRuns WorldPlaces }
 {}
 
 /// In each world that is sound, and so in each run of a chain, what a cursor of a call names is in one place of what that call sees,

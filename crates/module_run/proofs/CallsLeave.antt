@@ -1,10 +1,11 @@
 -- What the begin and the end of calls leave to other connections, and what goes with a call.
-use Rattle.std.proofs.Common.{◌≡◌, ◌≢◌, ◌⊎◌, ◌==◌, ℕ, ◌+◌, ◌<◌, ◌≤◌, Bool, true, false, List, [], Option, Some, None, refl, sym, ap, subst, ◌∙◌, inl, inr, arith, length}
+use Rattle.std.proofs.Common.{◌≡◌, ◌≢◌, ◌⊎◌, ◌==◌, ℕ, ◌+◌, ◌<◌, ◌≤◌, Bool, true, false, List, [], All, Option, Some, None, refl, sym, ap, subst, ◌∙◌, inl, inr, arith, length}
 use Rattle.std.specs.Prelude.{if◌then◌else◌}
 use Rattle.std.specs.Global.{Vec}
 use Rattle.std.proofs.lemmas.Bool.{cases_eq, ne_eqb, cases_Bool}
 use Rattle.bucket_ring.specs.declared.rings.Rings.{Ghosts}
 use Rattle.bucket_ring.specs.Kept.{NoneRevived}
+use Rattle.bucket_ring.specs.Lists.{list_at}
 use Rattle.module_code.specs.Program.{Program}
 use Rattle.module_code.specs.declared.instr.Status.{Status}
 use Rattle.run_model.specs.declared.bucket.Mark.TheVariants.{Passed, Usable}
@@ -13,6 +14,8 @@ use Rattle.run_model.specs.Chains.{module_at}
 use Rattle.run_model.specs.Pools.{Pools, is_under}
 use Rattle.bucket_kinds.specs.declared.stored.Stored.{Stored}
 use Rattle.brigade_ops.specs.declared.store.Brigades.{Brigades}
+use Rattle.bucket_store.specs.Due.{depends}
+use Rattle.bucket_store.specs.Items.{Item}
 use Rattle.brigade_ops.specs.Store.{lists, brigade_of, pool_of, next_name}
 use Rattle.interp_state.specs.declared.machine.Call.{Call}
 use Rattle.interp_state.specs.declared.machine.Instance.{Instance}
@@ -92,6 +95,7 @@ module _ {R : Type 0} {g : Ghosts R Stored} (ps : Pools Payload) (old new : Brig
       given = foreign.given;
       unheld = λ h. foreign.unheld (to_old n h);
       off = λ p on. ap (λ (k : ℕ). is_under ps k p) conn ∙ foreign.off p on;
+      apart = subst (λ (k : ℕ). All (λ (x : Item). depends (is_under ps k) x.1 ≡ false) (list_at (lists old) n)) (sym conn) foreign.apart;
     });
     holds = λ n pos h. elim (left.holds n pos h) [
       | inl held ↦ inl (to_old n held)

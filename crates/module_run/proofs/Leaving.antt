@@ -18,7 +18,7 @@ use Rattle.run_model.specs.declared.payload.Payload.{Payload}
 use Rattle.run_model.specs.Chains.{Linked, configuration, module_at, pools_of}
 use Rattle.run_model.specs.Effects.{handed_over}
 use Rattle.run_model.specs.Faults.{is_live_named}
-use Rattle.run_model.specs.Pools.{Pools, is_in, is_live, is_under}
+use Rattle.run_model.specs.Pools.{Pools, is_live, is_under}
 use Rattle.run_model.specs.State as model
 use Rattle.run_model.specs.State.{Configuration, fresh_call, pool_named, named_at as pool_at}
 use Rattle.run_model.proofs.Updates.{upd_either}
@@ -208,8 +208,8 @@ module _ {R : Type 0} {g : Ghosts R Stored} (chain : List Program) (tree : PoolT
   pub came_in : (k n : ℕ) (f : Filter) → filter_at c k ≡ Some f → named_at f 8 ≡ Some n → IsBrought n ⊎ IsOwnBrigade n
   came_in k n f is named = (let i = at_called chain c stands.left.stacked.called k (called_in k n f is named) in came_from i.0 k n f i.1 is named)
 
-  -- The connection's pool went, over the tree and the store, and no brigade was looked at.
-  module _ (mid : Brigades R g) (out : (n : ℕ) → lists mid n ≡ cleared_ring (is_under (map_of tree) c.conn) (is_in n []) (pool_of old n) (lists old n))
+  -- The connection's pool went, over the tree and the store.
+  module _ (mid : Brigades R g) (out : (n : ℕ) → lists mid n ≡ cleared_ring (is_under (map_of tree) c.conn) (pool_of old n) (lists old n))
       (off : (n : ℕ) → pool_of mid n ≡ pool_left (is_under (map_of tree) c.conn) (pool_of old n)) where
     pub off_still : (n : ℕ) → pool_of old n ≡ None → pool_of mid n ≡ None
     off_still n none = off n ∙ ap (pool_left (is_under (map_of tree) c.conn)) none
@@ -218,21 +218,21 @@ module _ {R : Type 0} {g : Ghosts R Stored} (chain : List Program) (tree : PoolT
     free_calls k f is = off_still f.call.name (stands.left.stacked.held k f is).free
 
     pub destroyed_spares : (n : ℕ) → IsForeign (map_of tree) old c n → SameRing old mid n
-    destroyed_spares = spared (map_of tree) stands.left.formed old mid c c.conn (part_under (map_of tree) c.conn has_part) [] (λ n e. absurd (cc)) (record { lists = out; pools = off })
+    destroyed_spares = spared (map_of tree) stands.left.formed old mid c c.conn (part_under (map_of tree) c.conn has_part) (record { lists = out; pools = off })
 
     -- 0 is no brigade's name
     pub none_cleared : lists mid 0 ≡ None
-    none_cleared = out 0 ∙ ap (cleared_ring (is_under (map_of tree) c.conn) (is_in 0 []) (pool_of old 0)) stands.left.none
+    none_cleared = out 0 ∙ ap (cleared_ring (is_under (map_of tree) c.conn) (pool_of old 0)) stands.left.none
 
     -- brigades of the modules' own are gone
     own_gone : (n : ℕ) → IsOwnBrigade n → lists mid n ≡ None
     own_gone n o = go (lists old n) refl where
       go : (l : Option Items) → lists old n ≡ l → lists mid n ≡ None
-      go None e = out n ∙ ap (cleared_ring (is_under (map_of tree) c.conn) (is_in n []) (pool_of old n)) e
+      go None e = out n ∙ ap (cleared_ring (is_under (map_of tree) c.conn) (pool_of old n)) e
       go (Some xs) e =
           let at = own_under o.at o.slot n o.filter o.is o.own o.named (ap is_some e) in
-          out n ∙ (ap (cleared_ring (is_under (map_of tree) c.conn) (is_in n []) (pool_of old n)) e
-          ∙ (ap (λ (p : Option ℕ). cleared_ring (is_under (map_of tree) c.conn) (is_in n []) p (Some xs)) at.1.0 ∙ rw at.1.1 refl))
+          out n ∙ (ap (cleared_ring (is_under (map_of tree) c.conn) (pool_of old n)) e
+          ∙ (ap (λ (p : Option ℕ). cleared_ring (is_under (map_of tree) c.conn) p (Some xs)) at.1.0 ∙ rw at.1.1 refl))
 
     -- What the connection held is gone, where its calls' loose buckets and what was brought are.
     pub all_gone : (L : ℕ → Option Items) → ((n : ℕ) → lists mid n ≡ None → L n ≡ None) → ((k : ℕ) (f : Filter) → filter_at c k ≡ Some f → L f.call.name ≡ None)

@@ -43,6 +43,7 @@ pub mod MainCalls
 pub mod MainStacked
 pub mod MoreCalls
 pub mod Neighbours
+pub mod ShownBuckets
 pub mod NeighboursLeft
 pub mod NextCall
 pub mod NextTurn

@@ -15,7 +15,7 @@ use Rattle.run_model.specs.Chains.{Connection, Frame, Linked, configuration, fil
 use Rattle.run_model.specs.Clearing.{cleared_var, run_down}
 use Rattle.run_model.specs.Files.{Files, is_referred, let_go}
 use Rattle.run_model.specs.Payloads.{is_file_ref, labels_in}
-use Rattle.run_model.specs.Pools.{Pools, destroyed, is_in, is_under}
+use Rattle.run_model.specs.Pools.{Pools, destroyed, is_under}
 use Rattle.run_model.specs.RunOrder.{run_order}
 use Rattle.run_model.specs.State as model
 use Rattle.run_model.specs.State.{fresh_call, with_pools}
@@ -30,7 +30,7 @@ use Rattle.brigade_ops.specs.Store.{lists, brigade_of, pool_of, next_name}
 use Rattle.module_run.specs.declared.conn.Conn.{Conn}
 use Rattle.module_run.specs.declared.conn.Filter.{Filter}
 use Rattle.module_run.specs.declared.conn.OpenFile.{OpenFile}
-use Rattle.interp_exec.specs.Cleared.{LooksAt}
+use Rattle.interp_exec.specs.Cleared.{SparesIncoming}
 use Rattle.module_run.specs.Conns.{modules_of, IsSeenAs, call_name, conn_of, counting, filter_at, labels_handed, lengths, lent_by, runs_of, shown_filter, shown_instance, stack_of, stack_over, top_of, waiting}
 use Rattle.module_run.specs.Destroyed.{WasDestroyed, quieted, request_left}
 use Rattle.interp_state.specs.Held.{IsHeld}
@@ -69,23 +69,19 @@ OpenThen d fs = (file : ℕ) (bytes : List ℕ) → fs.opened file ≡ Some byte
 -- No call runs over these rings, and one pool was destroyed.
 module _ {R : Type 0} {g : Ghosts R Stored} (chain : List Program) (tree newer : PoolTree Payload) (old new : Brigades R g) (dev e : Device) (c : Conn) (stacked : IsStacked chain old c)
     (idle : c.busy ≡ false)
-    (pool : ℕ) (gone : WasDestroyed pool tree newer old new dev e c) where
+    (pool : ℕ) (gone : WasDestroyed pool tree newer old new dev e) where
   abbrev reached : ℕ → Bool
   reached = is_under (map_of tree) pool
 
-  looks : (k : ℕ) (f : Filter) → filter_at c k ≡ Some f → LooksAt gone.looked reached (pool_of old) f.instance f.call
-  looks k f is = record {
-    own = λ b n named. gone.named k b n f is named;
-    loose = gone.loose k f is;
-    apart = λ n named. absurd (no_lent (name_in (slot_at f.instance 8)) n (nothing_in chain old c stacked idle k f is) named);
-  }
+  spares : (k : ℕ) (f : Filter) → filter_at c k ≡ Some f → SparesIncoming reached (pool_of old) f.instance
+  spares k f is = λ n named. absurd (no_lent (name_in (slot_at f.instance 8)) n (nothing_in chain old c stacked idle k f is) named)
 
   held_gone : (k : ℕ) (f : Filter) → filter_at c k ≡ Some f → IsHeld new f.instance f.call
-  held_gone k f is = held_cleared old new gone.looked reached f.instance f.call (stacked.held k f is) (looks k f is) gone.out gone.next gone.names gone.off
+  held_gone k f is = held_cleared old new reached f.instance f.call (stacked.held k f is) (spares k f is) gone.out gone.next gone.names gone.off
 
   slot_gone : (runs : ℕ → Bool) (k : ℕ) (f : Filter) → filter_at c k ≡ Some f → (b : ℕ)
       → shown_slot runs (lists new) (slot_at f.instance b) ≡ cleared_var reached (shown_slot runs (lists old) (slot_at f.instance b))
-  slot_gone runs k f is b = by_slot old new gone.looked reached f.instance f.call (stacked.held k f is) (looks k f is) gone.out runs b
+  slot_gone runs k f is b = by_slot old new reached f.instance f.call (stacked.held k f is) (spares k f is) gone.out runs b
 
   -- a filter that has no call, in the next request
   filter_gone : (runs : ℕ → Bool) (k : ℕ) (f : Filter) → filter_at c k ≡ Some f
@@ -287,7 +283,7 @@ module _ {R : Type 0} {g : Ghosts R Stored} (chain : List Program) (tree newer :
         formed = gone.formed;
         house = gone.house;
         references = gone.open_files;
-        none = gone.out 0 ∙ ap (cleared_ring reached (is_in 0 gone.looked) (pool_of old 0)) left.none;
+        none = gone.out 0 ∙ ap (cleared_ring reached (pool_of old 0)) left.none;
         stacked = stacked_then;
       }
 

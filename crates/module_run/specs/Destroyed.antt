@@ -1,5 +1,5 @@
 -- A pool of a connection is destroyed while no call runs.
-use Rattle.std.specs.Prelude.{◌≡◌, ℕ, true, false, ◌&&◌, not, if◌then◌else◌, List, Some, None}
+use Rattle.std.specs.Prelude.{◌≡◌, ℕ, false, ◌&&◌, not, if◌then◌else◌, None}
 use Rattle.std.specs.List.{list_any}
 use Rattle.std.specs.Global.{Vec}
 use Rattle.bucket_kinds.specs.Device.{Device, Missing}
@@ -8,7 +8,7 @@ use Rattle.bucket_ring.specs.Kept.{NoneRevived}
 use Rattle.run_model.specs.declared.payload.Payload.{Payload}
 use Rattle.run_model.specs.Files.{is_referred}
 use Rattle.run_model.specs.Payloads.{is_file_ref}
-use Rattle.run_model.specs.Pools.{destroyed, is_in, is_under}
+use Rattle.run_model.specs.Pools.{destroyed, is_under}
 use Rattle.run_model.specs.RunOrder.{run_order, IsPoolMap}
 use Rattle.pool_tree.specs.declared.tree.PoolTree.{PoolTree}
 use Rattle.pool_tree.specs.Tree.{map_of}
@@ -19,9 +19,6 @@ use Rattle.brigade_ops.specs.Store.{lists, brigade_of, pool_of, next_name, refer
 use Rattle.module_run.specs.declared.conn.Conn.{Conn}
 use Rattle.module_run.specs.declared.conn.Filter.{Filter}
 use Rattle.module_run.specs.declared.conn.OpenFile.{OpenFile}
-use Rattle.module_run.specs.Conns.{filter_at}
-use Rattle.module_run.specs.Neighbours.{HoldsName}
-use Rattle.module_run.specs.Stacked.{named_at}
 use Rattle.interp_exec.specs.declared.labels_run.LabelsRun.{LabelsRun}
 
 -- in the next request no EOS was passed, and it is in its chain
@@ -33,14 +30,10 @@ abbrev pub request_left : Conn → Vec Filter → Vec LabelsRun → Vec OpenFile
 request_left c filters labels files = record c { filters = filters; labels = labels; req = None; files = files; ended = false }
 
 module _ {R : Type 0} {g : Ghosts R Stored} where
-  -- The pool went, over the tree, the store and the device, where those of all filters and calls of the connection are among the brigades that were looked at.
-  pub record WasDestroyed (pool : ℕ) (tree newer : PoolTree Payload) (old new : Brigades R g) (d e : Device) (c : Conn) : Type 0 where
-    pub looked : List ℕ
-    pub named : (k b n : ℕ) (f : Filter) → filter_at c k ≡ Some f → named_at f b ≡ Some n → is_in n looked ≡ true
-    pub loose : (k : ℕ) (f : Filter) → filter_at c k ≡ Some f → is_in f.call.name looked ≡ true
-    pub only : (n : ℕ) → is_in n looked ≡ true → HoldsName c n
+  -- The pool went, over the tree, the store and the device.
+  pub record WasDestroyed (pool : ℕ) (tree newer : PoolTree Payload) (old new : Brigades R g) (d e : Device) : Type 0 where
     pub pools : map_of newer ≡ destroyed pool (map_of tree)
-    pub out : (n : ℕ) → lists new n ≡ cleared_ring (is_under (map_of tree) pool) (is_in n looked) (pool_of old n) (lists old n)
+    pub out : (n : ℕ) → lists new n ≡ cleared_ring (is_under (map_of tree) pool) (pool_of old n) (lists old n)
     pub off : (n : ℕ) → pool_of new n ≡ pool_left (is_under (map_of tree) pool) (pool_of old n)
     pub closed : (file : ℕ) → e.numbered file ≡ (if list_any (λ x. is_file_ref file x.1) (run_order (map_of tree) pool) && not (is_referred (map_of newer) file) then Missing else d.numbered file)
     pub house : IsHouse new (map_of newer)

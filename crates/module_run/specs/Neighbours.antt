@@ -1,11 +1,14 @@
 -- What an event of a connection leaves to others that stand on the same pools and in the same store.
-use Rattle.std.specs.Prelude.{◌≡◌, ◌≢◌, ◌⊎◌, ℕ, ◌<◌, ◌≤◌, false, None, Some}
+use Rattle.std.specs.Prelude.{◌≡◌, ◌≢◌, ◌⊎◌, ℕ, ◌<◌, ◌≤◌, false, None, Some, All}
 use Rattle.bucket_ring.specs.declared.rings.Rings.{Ghosts}
 use Rattle.bucket_ring.specs.Kept.{NoneRevived}
+use Rattle.bucket_ring.specs.Lists.{list_at}
 use Rattle.run_model.specs.declared.payload.Payload.{Payload}
 use Rattle.run_model.specs.Pools.{Pools, is_under}
 use Rattle.bucket_kinds.specs.declared.stored.Stored.{Stored}
 use Rattle.brigade_ops.specs.declared.store.Brigades.{Brigades}
+use Rattle.bucket_store.specs.Due.{depends}
+use Rattle.bucket_store.specs.Items.{Item}
 use Rattle.brigade_ops.specs.Store.{lists, brigade_of, pool_of, next_name}
 use Rattle.module_run.specs.declared.conn.Filter.{Filter}
 use Rattle.module_run.specs.declared.conn.Conn.{Conn}
@@ -20,12 +23,14 @@ pub record HoldsName (c : Conn) (n : ℕ) : Type 0 where
   pub by : (filter.call.name ≡ n) ⊎ ((b : ℕ) × (named_at filter b ≡ Some n))
 
 module _ {R : Type 0} {g : Ghosts R Stored} where
-  -- A brigade that was given out, which the connection does not hold, and which lies on none of its pools.
+  -- A brigade that was given out, which the connection does not hold, and which lies on none of its pools. apart: nor does a bucket of it depend
+  -- on one.
   pub record IsForeign (ps : Pools Payload) (store : Brigades R g) (c : Conn) (n : ℕ) : Type 0 where
     pub real : 0 < n
     pub given : n < next_name store
     pub unheld : HoldsName c n → ⊥
     pub off : (p : ℕ) → pool_of store n ≡ Some p → is_under ps c.conn p ≡ false
+    pub apart : All (λ (x : Item). depends (is_under ps c.conn) x.1 ≡ false) (list_at (lists store) n)
 
   pub record SameRing (old new : Brigades R g) (n : ℕ) : Type 0 where
     pub list : lists new n ≡ lists old n

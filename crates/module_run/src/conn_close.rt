@@ -86,7 +86,7 @@ impl Conn {
         ensures unread { OnErr result (F.device files.new ≡ F.device files.old) }
     {
         self.labels.reserve(1)?;
-        let ran = store.clear(ClearKind::Destroy, &[], tree, files, self.conn)?;
+        let ran = store.clear(ClearKind::Destroy, tree, files, self.conn)?;
         add_labels(&mut self.labels, ran);
         self.end_calls(store);
         if let Some(name) = self.filters[self.first].incoming() {

@@ -51,7 +51,7 @@ impl Conn {
         requires live { IsTrue (is_live (map_of tree.old) pool) }
         requires house { IsHouse store.old (map_of tree.old) }
         requires open { AreOpen (references store.old) (F.device files.old) }
-        ensures ok { OnOk result (WasDestroyed pool tree.old tree.new store.old store.new (F.device files.old) (F.device files.new) self.old) }
+        ensures ok { OnOk result (WasDestroyed pool tree.old tree.new store.old store.new (F.device files.old) (F.device files.new)) }
         ensures labels { OnOk result (labels_handed self.new.labels.items ≡ labels_handed self.old.labels.items ++ labels_in (run_order (map_of tree.old) pool)) }
         ensures rest { self.new ≡ record self.old { labels = self.new.labels } }
         ensures same { OnErr result (self.new.labels.items ≡ self.old.labels.items) }
@@ -65,9 +65,8 @@ impl Conn {
         ensures unreferred { (file : ℕ) → ((p : ℕ) → is_under (map_of tree.old) pool p ≡ true → refers (map_of tree.old) p file ≡ false)
             → (F.device files.new).numbered file ≡ (F.device files.old).numbered file }
     {
-        let rings = self.rings()?;
         self.labels.reserve(1)?;
-        let ran = store.clear(ClearKind::Destroy, rings.as_slice(), tree, files, pool)?;
+        let ran = store.clear(ClearKind::Destroy, tree, files, pool)?;
         add_labels(&mut self.labels, ran);
         Ok(())
     }

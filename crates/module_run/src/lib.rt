@@ -19,7 +19,6 @@ mod conn_put_out;
 mod conn_return;
 mod conn_return_last;
 mod conn_return_to_caller;
-mod conn_rings;
 mod conn_run;
 mod conn_step;
 mod conn_step_in_store;

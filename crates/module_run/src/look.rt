@@ -69,7 +69,6 @@ impl Conn {
             conn: self.conn,
             req: self.req,
             waits: self.waits.as_slice(),
-            rings: &[],
         };
         fault(
             code,
@@ -120,7 +119,6 @@ impl Conn {
             conn: self.conn,
             req: self.req,
             waits: self.waits.as_slice(),
-            rings: &[],
         };
         lacks_names(
             code,

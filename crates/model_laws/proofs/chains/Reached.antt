@@ -10,6 +10,7 @@ use Rattle.model_laws.proofs.chains.FilesKept.{files_in_runs}
 use Rattle.model_laws.proofs.chains.FilesApart.{run_keeps_files_apart}
 use Rattle.model_laws.proofs.chains.Paths.{paths_in_runs}
 use Rattle.model_laws.proofs.chains.Homes.{homes_in_runs}
+use Rattle.model_laws.proofs.chains.PoolPlaces.{places_in_runs}
 use Rattle.model_laws.proofs.chains.Numbers.{run_keeps_numbers}
 use Rattle.model_laws.proofs.chains.Registered.{registered_in_runs}
 
@@ -43,5 +44,6 @@ reached_holds budget chain w chained r = record {
   apart = run_keeps_files_apart budget chain r.events r.answers w chained r.run;
   paths = paths_in_runs.run budget chain r.events r.answers w chained r.run;
   homes = homes_in_runs.run budget chain r.events r.answers w chained r.run;
+  places = places_in_runs.run budget chain r.events r.answers w chained r.run;
   registered = registered_in_runs.run budget chain r.events r.answers w chained r.run;
 }

@@ -104,16 +104,16 @@ returns g c =
           c.args.context.now ps (map_of c.clear.new.tree) handed c.add_labels.new.handed.items view pool
           (lists old) (next_name old) (lists new) (next_name new) i call named labels
           (record { closed = done.closed; others = e.others })
-          (seen_cleared old new c.args.context.now.rings.now (is_under ps pool) i call c.requires.held (c.requires.looks pool named) done.out pool ps (map_of c.clear.new.tree) over refl e.next
+          (seen_cleared old new (is_under ps pool) i call c.requires.held (c.requires.spares pool named) done.out pool ps (map_of c.clear.new.tree) over refl e.next
           ∙ ap (λ (left : Pools Payload). files_let_go pool r (with_pools left (run_down pool r))) done.ok);
       cleared = λ pool named.
-          subst (λ (p : ℕ). LeavesUncleared (is_under ps p) c.args.context.now.rings.now old new) (some_is _ _ (c.in-Some.ensures ∙ (ap name_in c.variable.ensures ∙ named)))
+          subst (λ (p : ℕ). LeavesUncleared (is_under ps p) old new) (some_is _ _ (c.in-Some.ensures ∙ (ap name_in c.variable.ensures ∙ named)))
           (record { lists = done.out; pools = done.off });
       err = tt;
       kept = tt;
       unread = tt;
       unmoved = tt;
-      held = held_cleared old new c.args.context.now.rings.now (is_under ps pool) i call c.requires.held (c.requires.looks pool named) done.out e.next e.names done.off;
+      held = held_cleared old new (is_under ps pool) i call c.requires.held (c.requires.spares pool named) done.out e.next e.names done.off;
       house = e.house;
       «open» = e.open;
       next = e.next;

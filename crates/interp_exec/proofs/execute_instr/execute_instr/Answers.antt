@@ -124,9 +124,9 @@ clear_pool-requires-clause-below g c =
     λ pool named. c.requires.below pool
     (emptied c.args.instance.now c.args.instr c.effect_of-effect.result c.in-EmptyPool.kind c.in-EmptyPool.q pool c.effect_of-effect.ensures c.in-EmptyPool.is named)
 
-pub clear_pool-requires-clause-looks : goal.clear_pool-requires-clause-looks
-clear_pool-requires-clause-looks g c =
-    λ pool named. c.requires.looks pool
+pub clear_pool-requires-clause-spares : goal.clear_pool-requires-clause-spares
+clear_pool-requires-clause-spares g c =
+    λ pool named. c.requires.spares pool
     (emptied c.args.instance.now c.args.instr c.effect_of-effect.result c.in-EmptyPool.kind c.in-EmptyPool.q pool c.effect_of-effect.ensures c.in-EmptyPool.is named)
 
 pub read-requires-clause-open : goal.read-requires-clause-open

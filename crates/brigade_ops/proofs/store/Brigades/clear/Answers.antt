@@ -1,5 +1,4 @@
 use Rattle.std.proofs.Common.{sym, subst, ◌∙◌}
-use Rattle.run_model.specs.Pools.{is_in}
 use Rattle.run_model.proofs.References.{Emptied}
 use Rattle.pool_tree.specs.Tree.{map_of}
 use Rattle.pool_tree.proofs.Trees.{tree_formed}
@@ -28,7 +27,7 @@ run_down-requires-clause-open g c =
 
 pub returns-clause-out : goal.returns-clause-out
 returns-clause-out g c n =
-    lists_left (emptied g (goal.at.returns-clause-out g c).After-as_slice) n (is_in n c.args.rings.now) c.in_ok-morphs.morphs.found
+    lists_left (emptied g (goal.at.returns-clause-out g c).After-as_slice) n c.in_ok-morphs.morphs.found
     (lists c.run_down.new.self n) (c.run_down.ensures.out n) (c.in_ok-morphs.ensures.made n)
 
 pub returns-clause-off : goal.returns-clause-off
@@ -44,7 +43,7 @@ pub returns-clause-house : goal.returns-clause-house
 returns-clause-house g c =
     let after = c.run_down.new.self in
     house_left (emptied g (goal.at.returns-clause-house g c).After-as_slice) (lists after) (pool_of after) (references after)
-    (λ n. is_in n c.args.rings.now) (returns-clause-out g c) (returns-clause-off g c) c.run_down.ensures.counted
+    (returns-clause-out g c) (returns-clause-off g c) c.run_down.ensures.counted
 
 pub returns-clause-freed : goal.returns-clause-freed
 returns-clause-freed g c p is = c.run_down.ensures.freed p (c.in_ok-morphs.ensures.reached p is)

@@ -23,7 +23,7 @@ pub loop-name-init : goal.loop-name-init
 loop-name-init g c =
     let store = c.args.self.now in
     let reached = is_reached c.args.reached.now in
-    let test : BucketId → Bool = λ id. is_due reached c.args.rings.now (brigade_of store id) (bucket_at store id) in
+    let test : BucketId → Bool = λ id. is_due reached (brigade_of store id) (bucket_at store id) in
     let more = names_of store.held.rings.dependents c.args.reached.now.pool in
     let begun : ((id : BucketId) → is_named id c.push_due.new.found ≡ (test id && is_named id more)) = λ id. (
     ap (is_named id) (c.in_ok-push_due.ensures
@@ -41,7 +41,7 @@ loop-name-preserved g c =
     let reached = is_reached c.args.reached.now in
     let pools = c.deref-name-items.result.now in
     let i = c.loop-name.name-index in
-    let test : BucketId → Bool = λ id. is_due reached c.args.rings.now (brigade_of store id) (bucket_at store id) in
+    let test : BucketId → Bool = λ id. is_due reached (brigade_of store id) (bucket_at store id) in
     let names = c.loop-name.names in
     let more = names_of store.held.rings.dependents (get_or pools i 0) in
     let grown : ((id : BucketId) → is_named id c.push_due-in-loop-name.new.found ≡ (is_named id names || (test id && is_named id more))) = λ id. (
@@ -68,7 +68,7 @@ returns-clause-all g c id due =
     let store = c.args.self.now in
     let reached = is_reached c.args.reached.now in
     let pools = c.deref-name-items.result.now in
-    let parts = due_parts reached c.args.rings.now (brigade_of store id) (bucket_at store id) due in
+    let parts = due_parts reached (brigade_of store id) (bucket_at store id) due in
     let b = parts.0 in
     let x = parts.1 in
     let here = bucket_found store id b x parts.2 parts.3 in

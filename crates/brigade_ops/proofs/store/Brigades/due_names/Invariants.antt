@@ -11,9 +11,9 @@ use Rattle.brigade_ops.proofs.store.Brigades.due_names.Given as goal
 
 abbrev pub invariant-loop-name : goal.invariant-loop-name
 invariant-loop-name g l = record {
-  told : (id : BucketId) → is_named id l.names ≡ true → is_due (is_reached l.reached) l.rings (brigade_of l.self id) (bucket_at l.self id) ≡ true;
+  told : (id : BucketId) → is_named id l.names ≡ true → is_due (is_reached l.reached) (brigade_of l.self id) (bucket_at l.self id) ≡ true;
   first : (id : BucketId) → is_named id (names_of l.self.held.rings.dependents l.reached.pool) ≡ true
-      → is_due (is_reached l.reached) l.rings (brigade_of l.self id) (bucket_at l.self id) ≡ true → is_named id l.names ≡ true;
+      → is_due (is_reached l.reached) (brigade_of l.self id) (bucket_at l.self id) ≡ true → is_named id l.names ≡ true;
   all : (p : ℕ) (id : BucketId) → is_in p (take l.name-index l.name-items) ≡ true → is_named id (names_of l.self.held.rings.dependents p) ≡ true
-      → is_due (is_reached l.reached) l.rings (brigade_of l.self id) (bucket_at l.self id) ≡ true → is_named id l.names ≡ true;
+      → is_due (is_reached l.reached) (brigade_of l.self id) (bucket_at l.self id) ≡ true → is_named id l.names ≡ true;
 }

@@ -1,7 +1,6 @@
 -- What was made ready for the brigades so far.
-use Rattle.std.proofs.Common.{◌≡◌, ℕ, Some, cond, take}
+use Rattle.std.proofs.Common.{◌≡◌, ℕ, Some, cond, nat_lt}
 use Rattle.run_model.specs.declared.bucket.Bucket.{Bucket}
-use Rattle.run_model.specs.Pools.{is_in}
 use Rattle.bucket_ring.specs.declared.names.BucketId.{BucketId}
 use Rattle.brigade_ops.specs.Due.{is_reached}
 use Rattle.bucket_store.specs.Morphs.{morphed, cleared_as}
@@ -10,4 +9,4 @@ use Rattle.brigade_ops.proofs.store.Brigades.plan_by_walk.Given as goal
 
 abbrev pub invariant-loop-ring : goal.invariant-loop-ring
 invariant-loop-ring g l = (id : BucketId) (b : ℕ) (x : Bucket) → brigade_of l.self id ≡ Some b → bucket_at l.self id ≡ Some x
-    → morphed l.found id x ≡ cond (is_in b (take l.ring-index l.rings)) (cleared_as (is_reached l.reached) x) x
+    → morphed l.found id x ≡ cond (nat_lt b l.ring) (cleared_as (is_reached l.reached) x) x

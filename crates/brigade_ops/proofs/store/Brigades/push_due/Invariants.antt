@@ -6,4 +6,4 @@ use Rattle.brigade_ops.specs.Store.{brigade_of, bucket_at}
 use Rattle.brigade_ops.proofs.store.Brigades.push_due.Given as goal
 
 abbrev pub invariant-loop-name : goal.invariant-loop-name
-invariant-loop-name g l = l.found ≡ l.initial.found ++ filter (λ id. is_due (is_reached l.reached) l.rings (brigade_of l.self id) (bucket_at l.self id)) (take l.name-index l.names)
+invariant-loop-name g l = l.found ≡ l.initial.found ++ filter (λ id. is_due (is_reached l.reached) (brigade_of l.self id) (bucket_at l.self id)) (take l.name-index l.names)

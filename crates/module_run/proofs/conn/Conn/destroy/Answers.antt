@@ -21,15 +21,9 @@ returns-clause-unreferred g c file none =
     unreferred_stays (map_of c.args.tree.now) (tree_formed c.args.tree.now) c.args.pool c.requires.live file none (is_referred (map_of c.clear.new.tree) file)
     ((g.F.Files.device c.clear.new.files).numbered file) ((g.F.Files.device c.args.files.now).numbered file) (c.in_ok-ran.ensures.closed file)
 
-pub returns-in_err-rings : goal.returns-in_err-rings
-returns-in_err-rings g c =
-    let p = err_from_is_err_and c.from_residual.result c.from_residual.ensures.1 in
-    let o = same_device (g.F.Files.device c.args.files.now) in
-    rw p.1 (record { ok = tt; labels = tt; rest = refl; same = refl; err = λ n. refl; pools = refl; uncounted = refl; next = refl; kept = refl; unread = refl; others = o; unreferred = λ f n. refl })
-
 pub returns-in_err-reserve : goal.returns-in_err-reserve
 returns-in_err-reserve g c =
-    let p = err_from_is_err_and c.from_residual-in_err-reserve.result c.from_residual-in_err-reserve.ensures.1 in
+    let p = err_from_is_err_and c.from_residual.result c.from_residual.ensures.1 in
     let o = same_device (g.F.Files.device c.args.files.now) in
     let s = c.reserve.ensures.items in
     rw p.1 (record { ok = tt; labels = tt; rest = refl; same = s; err = λ n. refl; pools = refl; uncounted = refl; next = refl; kept = refl; unread = refl; others = o; unreferred = λ f n. refl })
